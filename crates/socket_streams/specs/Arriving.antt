@@ -1,0 +1,37 @@
+-- What a listener gives as a source of jobs.
+use Rattle.std.specs.Prelude.{◌≡◌, ◌+◌, ℕ, Bool, false, Option, Some, None, Result, Ok, Err}
+use Rattle.job_pool.specs.declared.jobs.JobFault.{JobFault}
+use Rattle.gate_node.specs.Gates.{Gates}
+use Rattle.gate_node.specs.Passes.{AreUnused}
+use Rattle.worker_pool.specs.declared.job.Job.{Job}
+use Rattle.worker_pool.specs.Serving.{IsForGates}
+
+-- the gates that its connections are for, how many are accepted at most, whether an input may end that before, how many were given, and how many
+-- were closed for want of memory
+pub record ArrivalsView : Type 0 where
+  pub gates : Gates
+  pub limit : Option ℕ
+  pub can_stop : Bool
+  pub given : ℕ
+  pub refused : ℕ
+
+-- of these, all but the numbers of connections are the same
+pub record IsSameSource (first last : ArrivalsView) : Type 0 where
+  pub gates : last.gates ≡ first.gates
+  pub limit : last.limit ≡ first.limit
+  pub can_stop : last.can_stop ≡ first.can_stop
+
+module _ {I O : Type 0} where
+  -- a connection by passes of these gates that have seen nothing
+  pub record IsNewConnection (gates : Gates) (job : Job I O) : Type 0 where
+    pub of_gates : IsForGates gates job
+    pub unused : AreUnused job.passes
+
+  -- a connection, of which there is one more; none, where as many were accepted as are to be, or an input may have ended; or a fault
+  abbrev pub GivesNext : ArrivalsView → Result (Option (Job I O)) JobFault → ArrivalsView → Type 0
+  GivesNext first (Ok (Some job)) last = IsNewConnection first.gates job × (last.given ≡ first.given + 1)
+  GivesNext first (Ok None) last = (last.given ≡ first.given) × (first.can_stop ≡ false → first.limit ≡ Some (last.given + last.refused))
+  GivesNext first (Err fault) last = Unit {0}
+
+  abbrev pub GivesConnection : ArrivalsView → Result (Option (Job I O)) JobFault → ArrivalsView → Type 0
+  GivesConnection first given last = IsSameSource first last × GivesNext first given last

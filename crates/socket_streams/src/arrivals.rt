@@ -1,0 +1,316 @@
+//! The connections of a listener as a source of jobs.
+ghost use Rattle.std.specs.Prelude.{◌≡◌, ◌+◌, ◌<◌, ◌≤◌, ◌^◌, Some, true, false, IfSome, IfNone, IfOk};
+ghost use Rattle.gate_node.specs.Passes.{ArePassesOf, AreUnused};
+ghost use Rattle.socket_streams.specs.Arriving.{ArrivalsView, IsSameSource, IsNewConnection};
+
+use crate::accept_fault::AcceptFault;
+use crate::halves::{ReplyHalf, RequestHalf, Socket, new_halves, new_socket};
+use crate::log_sink::log_refused;
+use crate::pause::PAUSE_MILLIS;
+use crate::spare::Spare;
+use crate::stop::Stop;
+use crate::waits::Waits;
+use log::{Log, info, warn};
+use mio::unix::SourceFd;
+use mio::{Interest, Token};
+use std::alloc::Global;
+use std::marker::Model;
+use std::net::{SocketAddr, TcpListener, TcpStream};
+use std::os::fd::AsRawFd;
+use std::rt::Clock;
+use std::sync::Wait;
+use std::time::Duration;
+use std::{io, thread};
+use worker_pool::{Job, JobFault, Jobs, Passes, Shared};
+
+/// The token of the listener.
+const LISTENER: usize = 0;
+
+/// The connections of a listener, each with new passes of the gates of a run, until as many were accepted as are to be, or serving is stopped.
+///
+/// One for which memory is refused is closed, and is one of those that were accepted. One that failed before it was accepted is passed over.
+/// Where the system has no descriptor or no memory for a further one, that is logged, and it is accepted again every 10 ms. Where the listener fails,
+/// serving is stopped.
+#[derive(Drop)]
+pub struct Arrivals<'a, X> {
+    rt: &'a X,
+    alloc: Global,
+    listener: &'a TcpListener,
+    waits: Waits,
+    shared: &'a Shared,
+    stop: &'a Stop,
+    spare: Spare,
+    limit: Option<u64>,
+    can_stop: bool,
+    given: u64,
+    refused: u64,
+    /// Whether it was logged that there is no descriptor or no memory for a further connection.
+    is_logged: bool,
+}
+
+impl<'a, X> Model for Arrivals<'a, X> {
+    ghost use Rattle.std.specs.Prelude.{◌+◌, ◌<◌, ◌≤◌, ◌^◌, IfSome};
+    ghost use Rattle.socket_streams.specs.Arriving.{ArrivalsView};
+
+    ghost Value = { ArrivalsView };
+
+    ghost view = { λ a. record {
+      gates = a.shared.now;
+      limit = a.limit;
+      can_stop = a.can_stop;
+      given = a.given;
+      refused = a.refused;
+    } };
+
+    ghost invariant = { λ a. (a.given + a.refused < 2 ^ 64)
+        × IfSome a.limit (λ limit. a.given + a.refused ≤ limit) };
+}
+
+/// Has a listener not wait, and its connections reported.
+fn watch(waits: &Waits, listener: &TcpListener) -> io::Result<()> {
+    listener.set_nonblocking(true)?;
+    let descriptor = listener.as_raw_fd();
+    waits.poll.registry().register(
+        &mut SourceFd(&descriptor),
+        Token(LISTENER),
+        Interest::READABLE,
+    )
+}
+
+impl<'a, X> Arrivals<'a, X> {
+    /// The connections that come to a listener, of which at most so many are accepted, if there is such a number. `can_stop` where something may
+    /// raise the stop before.
+    pub fn new(
+        rt: &'a X,
+        alloc: Global,
+        listener: &'a TcpListener,
+        waits: Waits,
+        shared: &'a Shared,
+        stop: &'a Stop,
+        limit: Option<u64>,
+        can_stop: bool,
+    ) -> io::Result<Arrivals<'a, X>>
+        ensures { IfOk result (λ arrivals. arrivals ≡ record {
+          gates = shared.now;
+          limit = limit;
+          can_stop = can_stop;
+          given = 0;
+          refused = 0;
+        }) }
+    {
+        watch(&waits, listener)?;
+        Ok(Arrivals {
+            rt,
+            alloc,
+            listener,
+            waits,
+            shared,
+            stop,
+            spare: Spare::new(alloc),
+            limit,
+            can_stop,
+            given: 0,
+            refused: 0,
+            is_logged: false,
+        })
+    }
+
+    /// How many connections were accepted.
+    pub fn accepted(&self) -> u64
+        ensures count { result ≡ self.now.given + self.now.refused }
+        ensures most { IfSome self.now.limit (λ limit. result ≤ limit) }
+    {
+        self.given + self.refused
+    }
+
+    /// How many of them were closed for want of memory.
+    pub fn refused(&self) -> u64
+        ensures { result ≡ self.now.refused }
+    {
+        self.refused
+    }
+
+    /// Whether as many were accepted as are to be.
+    fn is_reached(&self) -> bool
+        ensures below { result ≡ false → IfSome self.now.limit
+            (λ limit. self.now.given + self.now.refused < limit) }
+        ensures reached { result ≡ true →
+            self.now.limit ≡ Some (self.now.given + self.now.refused) }
+    {
+        match self.limit {
+            Some(limit) => self.accepted() == limit,
+            None => false,
+        }
+    }
+
+    /// Whether accepting is to end before as many were accepted as are to be.
+    fn is_stopped(&self) -> bool
+        ensures { self.now.can_stop ≡ false → result ≡ false }
+    {
+        self.can_stop && self.stop.is_raised()
+    }
+
+    /// New passes of the gates: once more where memory was refused and some was given up.
+    fn new_passes(&mut self) -> Option<Passes>
+        ensures same { self.new ≡ self.old }
+        ensures gates { IfSome result (ArePassesOf self.old.gates) }
+        ensures unused { IfSome result AreUnused }
+    {
+        match Passes::new(self.alloc, self.shared) {
+            Ok(passes) => Some(passes),
+            Err(_) => {
+                if self.spare.give_up() {
+                    Passes::new(self.alloc, self.shared).ok()
+                } else {
+                    None
+                }
+            }
+        }
+    }
+
+    /// The socket of a stream: once more where memory was refused and some was given up.
+    fn new_socket(&mut self, stream: TcpStream) -> Option<Socket>
+        ensures { self.new ≡ self.old }
+    {
+        match new_socket(self.alloc, stream) {
+            Ok(socket) => Some(socket),
+            Err(stream) => {
+                if self.spare.give_up() {
+                    new_socket(self.alloc, stream).ok()
+                } else {
+                    None
+                }
+            }
+        }
+    }
+
+    /// The job of a connection that was accepted from `peer`. None where memory is refused; the connection is closed then.
+    fn new_job(
+        &mut self,
+        stream: TcpStream,
+        peer: SocketAddr,
+    ) -> Option<Job<RequestHalf, ReplyHalf>>
+        ensures same { self.new ≡ self.old }
+        ensures new { IfSome result (IsNewConnection self.old.gates) }
+    {
+        let passes = self.new_passes()?;
+        let socket = self.new_socket(stream)?;
+        match new_halves(self.alloc, socket, peer) {
+            Ok((reader, writer)) => Some(Job {
+                reader,
+                writer,
+                passes,
+            }),
+            Err(_) => None,
+        }
+    }
+}
+
+impl<'a, X: Log + Clock + Wait> Arrivals<'a, X> {
+    /// Waits until a connection does, or accepting is stopped, or for as long as this, if it is said. Where the wait fails, for a short time.
+    fn wait(&mut self, limit: Option<Duration>)
+        ensures { self.new ≡ self.old }
+    {
+        if self.waits.poll.poll(&mut self.waits.events, limit).is_err() {
+            thread::sleep(self.rt, Duration::from_millis(PAUSE_MILLIS));
+        }
+    }
+
+    /// Logs that there was no descriptor or no memory for a connection, where that wasn't logged yet.
+    fn log_want(&mut self)
+        ensures { self.new ≡ self.old }
+    {
+        if !self.is_logged {
+            warn!(self.rt; "no descriptor or no memory for a further connection: trying again");
+        }
+        self.is_logged = true;
+    }
+
+    /// Waits until the next connection may be accepted behind this fault of the last one. Refused where the listener failed.
+    fn wait_behind(&mut self, fault: AcceptFault) -> Result<(), JobFault>
+        ensures { self.new ≡ self.old }
+    {
+        match fault {
+            AcceptFault::NoneWaits => {
+                self.is_logged = false;
+                self.wait(None);
+            }
+            AcceptFault::OfOneConnection => {}
+            AcceptFault::OutOfResources => {
+                self.log_want();
+                self.wait(Some(Duration::from_millis(PAUSE_MILLIS)));
+            }
+            AcceptFault::OfListener => return Err(JobFault),
+        }
+        Ok(())
+    }
+
+    /// The job of a connection that was accepted from `peer`, which is logged and counted. None where it had to be closed.
+    fn take(&mut self, stream: TcpStream, peer: SocketAddr) -> Option<Job<RequestHalf, ReplyHalf>>
+        requires room { self.old.given + self.old.refused + 1 < 2 ^ 64 }
+        requires below { IfSome self.old.limit (λ limit. self.old.given + self.old.refused < limit) }
+        ensures same { IsSameSource self.old self.new }
+        ensures given { IfSome result (λ job. IsNewConnection self.old.gates job
+            × (self.new.given ≡ self.old.given + 1)) }
+        ensures none { IfNone result (self.new.given ≡ self.old.given) }
+    {
+        info!(self.rt; "connection from {peer}");
+        self.spare.refill(self.alloc);
+        let job = self.new_job(stream, peer);
+        if job.is_some() {
+            self.given += 1;
+        } else {
+            self.refused += 1;
+            log_refused(self.rt, peer);
+        }
+        job
+    }
+
+    /// Accepts a connection. None where none waited, which was waited for, or one had to be closed.
+    fn accept(&mut self) -> Result<Option<Job<RequestHalf, ReplyHalf>>, JobFault>
+        requires below { IfSome self.old.limit (λ limit. self.old.given + self.old.refused < limit) }
+        ensures same { IsSameSource self.old self.new }
+        ensures given { IfOk result (λ next. IfSome next (λ job. IsNewConnection self.old.gates job
+            × (self.new.given ≡ self.old.given + 1))) }
+        ensures none { IfOk result (λ next. IfNone next (self.new.given ≡ self.old.given)) }
+    {
+        if self.accepted() == u64::MAX {
+            return Err(JobFault);
+        }
+        match self.listener.accept() {
+            Ok((stream, peer)) => Ok(self.take(stream, peer)),
+            Err(error) => {
+                self.wait_behind(AcceptFault::of(&error))?;
+                Ok(None)
+            }
+        }
+    }
+}
+
+impl<'a, X: Log + Clock + Wait> Jobs for Arrivals<'a, X> {
+    type Job = Job<RequestHalf, ReplyHalf>;
+
+    ghost use Rattle.socket_streams.specs.Arriving.{GivesConnection};
+
+    ghost gives = { GivesConnection };
+
+    fn next(&mut self) -> Result<Option<Job<RequestHalf, ReplyHalf>>, JobFault> {
+        // a run asks for its first job once all threads were started
+        self.stop.start();
+        let rt = self.rt;
+        for _ in rt.forever() {
+            if self.is_reached() || self.is_stopped() {
+                return Ok(None);
+            }
+            match self.accept() {
+                Ok(Some(job)) => return Ok(Some(job)),
+                Ok(None) => {}
+                Err(fault) => {
+                    self.stop.raise();
+                    return Err(fault);
+                }
+            }
+        }
+        unreachable!()
+    }
+}

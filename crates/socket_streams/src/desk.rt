@@ -1,0 +1,272 @@
+//! A worker's sockets: which of its connections have their turn, and how it waits for them.
+
+use crate::door::Door;
+use crate::halves::{ReplyHalf, RequestHalf};
+use crate::lingering::LOOK_MILLIS;
+use crate::pause::PAUSE_MILLIS;
+use crate::slots::{Patience, Slots};
+use crate::stop::Stop;
+use crate::waits::{WAKER, Waits};
+use crate::worker_clock::WorkerClock;
+use job_pool::{Moved, Turn};
+use mio::unix::SourceFd;
+use mio::{Events, Interest, Poll, Token};
+use std::alloc::Global;
+use std::io::ErrorKind;
+use std::rt::Clock;
+use std::sync::{Arc, Wait};
+use std::time::Duration;
+use std::{io, thread};
+use worker_pool::StreamReadiness;
+
+/// What a worker waits with whose sessions are over sockets: for these and for its bell, with `mio`.
+///
+/// A connection has a turn where its socket is ready. Where it was silent for too long, or serving is stopped, it has one ordinary turn, and where that
+/// ends in waiting, turns in which it ends rather than wait. The worker takes a task where its bell was rung for one, and its stop mark once
+/// no connection is open and no socket lingers. It takes no memory before its first task, and is woken once all threads of the run were started.
+#[derive(Drop)]
+pub struct SocketDesk<'a, 's, X> {
+    rt: &'a X,
+    stop: &'s Stop,
+    door: Arc<Door, Global>,
+    waits: Waits,
+    slots: Slots,
+    clock: WorkerClock,
+    /// When it last returned from a wait, in milliseconds since the worker began.
+    now: u64,
+    /// How many turns the round has left that was begun, if one was.
+    round: Option<usize>,
+    /// The slot of a connection for which memory was refused here.
+    unwatched: Option<usize>,
+    /// Whether it has seen that all threads were started.
+    has_started: bool,
+    /// Whether it has seen that serving is stopped.
+    is_stopping: bool,
+}
+
+/// Has a connection's slot reported when bytes can be read or written.
+fn register(poll: &Poll, reader: &RequestHalf, slot: usize) -> io::Result<()> {
+    let Some(descriptor) = reader.descriptor() else {
+        return Err(ErrorKind::NotConnected.into());
+    };
+    poll.registry().register(
+        &mut SourceFd(&descriptor),
+        Token(slot),
+        Interest::READABLE | Interest::WRITABLE,
+    )
+}
+
+/// Notes which slots are ready at this time. `is_stopping` where none is waited for any more.
+fn note_events(slots: &mut Slots, events: &Events<Global>, now: u64, is_stopping: bool) {
+    for event in events.iter() {
+        let Token(slot) = event.token();
+        if slot != WAKER {
+            slots.note_move(slot, now);
+            if !is_stopping {
+                slots.set_patience(slot, Patience::Open);
+            }
+            slots.mark_ready(slot);
+        }
+    }
+}
+
+impl<'a, 's, X: Clock + Wait> SocketDesk<'a, 's, X> {
+    /// No connection is open. One may be silent for so many seconds, if there is a limit.
+    pub(crate) fn new(
+        rt: &'a X,
+        alloc: Global,
+        stop: &'s Stop,
+        door: Arc<Door, Global>,
+        waits: Waits,
+        idle_seconds: Option<u32>,
+    ) -> SocketDesk<'a, 's, X> {
+        SocketDesk {
+            rt,
+            stop,
+            door,
+            waits,
+            slots: Slots::new(alloc),
+            clock: WorkerClock::new(rt, idle_seconds),
+            now: 0,
+            round: None,
+            unwatched: None,
+            has_started: false,
+            is_stopping: false,
+        }
+    }
+
+    /// Begins to watch a connection that was opened in a slot. Where it can't be watched, its next read meets the end.
+    fn watch(&mut self, slot: usize, reader: &RequestHalf) {
+        if !self.slots.begin(self.rt, &self.door, slot, self.now) {
+            self.unwatched = Some(slot);
+            reader.shut_down();
+            return;
+        }
+        if register(&self.waits.poll, reader, slot).is_err() {
+            reader.shut_down();
+        }
+        self.slots.mark_ready(slot);
+    }
+
+    /// The turn of a slot, of which the sink is to know whether it cuts the connection off.
+    fn turn(&self, slot: usize, may_wait: bool) -> Turn {
+        self.door.set_cutting(!may_wait);
+        Turn { slot, may_wait }
+    }
+
+    /// The next turn of the round; None where it has none left, and has ended.
+    fn next_of_round(&mut self) -> Option<Turn> {
+        let left = match self.round {
+            Some(left) => left,
+            None => self.slots.ready(),
+        };
+        self.round = None;
+        if left == 0 {
+            return None;
+        }
+        let slot = self.slots.take_ready()?;
+        self.round = Some(left - 1);
+        Some(self.turn(slot, self.slots.patience(slot) != Some(Patience::Gone)))
+    }
+
+    /// The connection in a slot would have to wait.
+    fn note_waiting(&mut self, slot: usize) {
+        let is_given_up = match self.slots.patience(slot) {
+            Some(Patience::Open) => self.is_stopping,
+            Some(Patience::Asked) => true,
+            Some(Patience::Gone) | None => false,
+        };
+        if is_given_up {
+            self.slots.set_patience(slot, Patience::Gone);
+            self.slots.mark_ready(slot);
+        }
+    }
+
+    /// The connection in a slot can go on.
+    fn note_going(&mut self, slot: usize) {
+        self.slots.note_move(slot, self.now);
+        if !self.is_stopping {
+            self.slots.set_patience(slot, Patience::Open);
+        }
+        self.slots.mark_ready(slot);
+    }
+
+    /// Whether the worker has something to do that it was woken for. `is_idle` where no connection is open.
+    fn is_called(&self, is_idle: bool) -> bool {
+        self.door.has_due()
+            || (is_idle && self.may_end())
+            || (self.stop.is_started() && !self.has_started)
+            || (self.stop.is_raised() && !self.is_stopping)
+    }
+
+    /// Whether all tasks are in the queue, and no socket lingers: once no connection is open, the worker may take its stop mark.
+    fn may_end(&self) -> bool {
+        self.door.is_closing() && !self.door.has_lingering()
+    }
+
+    /// How long may be waited for what is ready next; for ever, where it is None.
+    fn limit(&self, is_idle: bool) -> Option<Duration> {
+        if self.slots.ready() > 0 || self.is_called(is_idle) {
+            Some(Duration::from_millis(0))
+        } else if self.door.has_lingering() {
+            Some(Duration::from_millis(LOOK_MILLIS))
+        } else {
+            self.clock.limit()
+        }
+    }
+
+    /// Waits until a socket is ready, the bell is rung, or it is time to look. Where the wait fails, for a short time.
+    fn poll(&mut self, is_idle: bool) {
+        // who wakes it from now on writes to its waker, and what was to wake it before is looked for behind this
+        self.door.set_waiting(true);
+        let limit = self.limit(is_idle);
+        if self.waits.poll.poll(&mut self.waits.events, limit).is_err() {
+            thread::sleep(self.rt, Duration::from_millis(PAUSE_MILLIS));
+        }
+        self.door.set_waiting(false);
+    }
+
+    /// Has the connections that were silent since then asked once more, and then given up.
+    fn sweep(&mut self, closes_before: u64) {
+        for slot in 0..self.slots.len() {
+            if self.slots.is_silent(slot, closes_before) {
+                self.slots.set_patience(slot, Patience::Asked);
+                self.slots.mark_ready(slot);
+            }
+        }
+    }
+
+    /// Notes what is ready, and looks at the clock where connections may not be silent for ever.
+    fn note_ready(&mut self) {
+        let tick = self.clock.tick(self.rt);
+        if let Some(tick) = tick {
+            self.now = tick.now;
+        }
+        note_events(
+            &mut self.slots,
+            &self.waits.events,
+            self.now,
+            self.is_stopping,
+        );
+        if let Some(tick) = tick {
+            if tick.is_sweep {
+                self.sweep(tick.closes_before);
+            }
+        }
+    }
+
+    /// Where serving was stopped since it was last looked: each connection is to have a turn, and is then given up.
+    fn note_stop(&mut self) {
+        if self.is_stopping || !self.stop.is_raised() {
+            return;
+        }
+        self.is_stopping = true;
+        for slot in 0..self.slots.len() {
+            self.slots.mark_ready(slot);
+        }
+    }
+}
+
+impl<'a, 's, X: Clock + Wait> StreamReadiness<RequestHalf, ReplyHalf> for SocketDesk<'a, 's, X> {
+    fn may_take_memory(&self) -> bool {
+        self.stop.is_started()
+    }
+
+    fn takes(&mut self, is_idle: bool) -> bool {
+        self.door.take_due() || (is_idle && self.may_end())
+    }
+
+    fn begin(&mut self, slot: usize, reader: &RequestHalf, _writer: &ReplyHalf) {
+        self.watch(slot, reader);
+    }
+
+    fn next(&mut self) -> Option<Turn> {
+        match self.unwatched {
+            Some(slot) => Some(self.turn(slot, false)),
+            None => self.next_of_round(),
+        }
+    }
+
+    fn after(&mut self, slot: usize, moved: Moved) {
+        match moved {
+            Moved::Over => {
+                if self.unwatched == Some(slot) {
+                    self.unwatched = None;
+                }
+                self.slots.end(slot);
+            }
+            Moved::Going => self.note_going(slot),
+            Moved::Waits => self.note_waiting(slot),
+        }
+    }
+
+    fn wait<T: Wait>(&mut self, _rt: &T, is_idle: bool) {
+        self.poll(is_idle);
+        self.has_started = self.stop.is_started();
+        self.note_ready();
+        self.note_stop();
+        if self.door.has_lingering() {
+            self.door.pass_over(self.rt);
+        }
+    }
+}

@@ -1,0 +1,150 @@
+//! What a worker shares with those who wake it, and with its sink.
+
+use crate::halves::Socket;
+use crate::lingering::Lingering;
+use crate::slots::Slot;
+use job_pool::Bell;
+use mio::Waker;
+use std::alloc::Global;
+use std::mem;
+use std::rt::Clock;
+use std::sync::atomic::{AtomicBool, AtomicUsize, Ordering};
+use std::sync::{Arc, Mutex, Wait};
+
+/// What a worker's readiness, its sink, its bell and the stop of its run share.
+#[derive(Drop)]
+pub(crate) struct Door {
+    waker: Waker,
+    /// How many connections the worker has open or is to take.
+    load: AtomicUsize,
+    /// How many tasks it is to take.
+    due: AtomicUsize,
+    /// Whether all tasks are in the queue, so that it takes them until it has a stop mark.
+    is_closing: AtomicBool,
+    /// Whether it waits, or is about to, and nobody has woken it since.
+    is_waiting: AtomicBool,
+    /// Whether the connection that has its turn ends where it would have to wait.
+    is_cutting: AtomicBool,
+    /// The sockets of connections that have ended while their clients may still be sending.
+    lingering: Mutex<Lingering>,
+    /// Whether there is such a socket.
+    has_lingering: AtomicBool,
+    /// No slot, with room for as many as the worker may need next.
+    wider: Mutex<Vec<Slot>>,
+}
+
+impl Door {
+    /// The worker has nothing and is to take nothing. This waker ends its wait.
+    pub(crate) fn new<X: Clock>(rt: &X, alloc: Global, waker: Waker) -> Door {
+        Door {
+            waker,
+            load: AtomicUsize::new(0),
+            due: AtomicUsize::new(0),
+            is_closing: AtomicBool::new(false),
+            is_waiting: AtomicBool::new(false),
+            is_cutting: AtomicBool::new(false),
+            lingering: Mutex::new(Lingering::new(rt, alloc)),
+            has_lingering: AtomicBool::new(false),
+            wider: Mutex::new(Vec::new(alloc)),
+        }
+    }
+
+    /// Wakes the worker where it waits. The system refuses that only where a worker was woken so often, and hasn't waited since, that it
+    /// can't be counted: it is awake then.
+    pub(crate) fn wake(&self) {
+        if self.is_waiting.swap(false, Ordering::SeqCst) {
+            let _is_awake = self.waker.wake().is_err();
+        }
+    }
+
+    /// The worker waits from now on, or no longer.
+    pub(crate) fn set_waiting(&self, is_waiting: bool) {
+        self.is_waiting.store(is_waiting, Ordering::SeqCst);
+    }
+
+    /// Whether the worker is to take a task.
+    pub(crate) fn has_due(&self) -> bool {
+        self.due.load(Ordering::SeqCst) > 0
+    }
+
+    /// Whether the worker is to take a task, which it then takes.
+    pub(crate) fn take_due(&self) -> bool {
+        let has_due = self.has_due();
+        if has_due {
+            self.due.fetch_sub(1, Ordering::SeqCst);
+        }
+        has_due
+    }
+
+    /// Whether all tasks are in the queue.
+    pub(crate) fn is_closing(&self) -> bool {
+        self.is_closing.load(Ordering::SeqCst)
+    }
+
+    /// A connection of the worker's has ended, or was refused.
+    pub(crate) fn count_end(&self) {
+        self.load.fetch_sub(1, Ordering::SeqCst);
+    }
+
+    /// Says whether the connection that has its turn next ends where it would have to wait.
+    pub(crate) fn set_cutting(&self, is_cutting: bool) {
+        self.is_cutting.store(is_cutting, Ordering::SeqCst);
+    }
+
+    /// Whether the connection that had its turn last was to end where it would have to wait.
+    pub(crate) fn is_cutting(&self) -> bool {
+        self.is_cutting.load(Ordering::SeqCst)
+    }
+
+    /// Has the socket of a connection linger that has ended.
+    pub(crate) fn linger<X: Clock + Wait>(&self, rt: &X, socket: Socket) {
+        self.lingering.lock(rt).add(rt, socket);
+        self.has_lingering.store(true, Ordering::SeqCst);
+    }
+
+    /// Whether a socket lingers.
+    pub(crate) fn has_lingering(&self) -> bool {
+        self.has_lingering.load(Ordering::SeqCst)
+    }
+
+    /// Reads what comes to the sockets that linger.
+    pub(crate) fn pass_over<X: Clock + Wait>(&self, rt: &X) {
+        let mut lingering = self.lingering.lock(rt);
+        lingering.pass_over(rt);
+        self.has_lingering
+            .store(!lingering.is_empty(), Ordering::SeqCst);
+    }
+
+    /// Puts room for slots here.
+    pub(crate) fn put_wider<X: Wait>(&self, rt: &X, slots: Vec<Slot>) {
+        *self.wider.lock(rt) = slots;
+    }
+
+    /// Takes the room for slots that was put here; one without room where there is none.
+    pub(crate) fn take_wider<X: Wait>(&self, rt: &X, alloc: Global) -> Vec<Slot> {
+        mem::replace(&mut *self.wider.lock(rt), Vec::new(alloc))
+    }
+}
+
+/// What the leading thread wakes a worker with. It writes to the worker's descriptor only where the worker waits.
+#[derive(Drop)]
+pub struct SocketBell {
+    pub(crate) door: Arc<Door, Global>,
+}
+
+impl Bell for SocketBell {
+    fn load(&self) -> usize {
+        self.door.load.load(Ordering::SeqCst)
+    }
+
+    fn ring(&self) {
+        self.door.load.fetch_add(1, Ordering::SeqCst);
+        self.door.due.fetch_add(1, Ordering::SeqCst);
+        self.door.wake();
+    }
+
+    fn close(&self) {
+        self.door.is_closing.store(true, Ordering::SeqCst);
+        self.door.wake();
+    }
+}

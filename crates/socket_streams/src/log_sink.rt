@@ -1,0 +1,168 @@
+//! What is told the end of each connection: the log.
+ghost use Rattle.std.specs.Prelude.{◌≡◌, ◌++◌, ◌∷◌, []};
+
+use crate::door::Door;
+use crate::halves::{ReplyHalf, RequestHalf, Socket};
+use crate::slots::Slot;
+use ghost_state::GhostList;
+use job_pool::NumberedEnd;
+use log::{Log, info, warn};
+use node_session::{Ended, SessionFault};
+use std::alloc::{AllocError, Global};
+use std::marker::Model;
+use std::net::SocketAddr;
+use std::rt::Clock;
+use std::snapshot::Snapshot;
+use std::sync::{Arc, Wait};
+use worker_pool::{EndSink, Job, SessionEnd, Shared};
+
+/// The end of a connection, as a worker's sink is told it.
+type ConnectionEnd = SessionEnd<RequestHalf, ReplyHalf>;
+
+/// Writes a line to the log for each end, and has the socket of a connection linger whose client may still be sending. It keeps nothing: clauses alone
+/// see the ends that it was told, as their list.
+#[derive(Drop)]
+pub struct LogSink<'a, X> {
+    rt: &'a X,
+    alloc: Global,
+    door: Arc<Door, Global>,
+    /// For how many slots the worker has room, or is to find it at the door.
+    room: usize,
+    ends: GhostList<NumberedEnd<ConnectionEnd>>,
+}
+
+impl<'a, X> Model for LogSink<'a, X> {
+    ghost use Rattle.std.specs.Prelude.{List};
+    ghost use Rattle.job_pool.specs.declared.worker.NumberedEnd.{NumberedEnd};
+    ghost use Rattle.worker_pool.specs.declared.end_sink.SessionEnd.{SessionEnd};
+    ghost use Rattle.socket_streams.specs.declared.halves.RequestHalf.{RequestHalf};
+    ghost use Rattle.socket_streams.specs.declared.halves.ReplyHalf.{ReplyHalf};
+
+    ghost Value = { List (NumberedEnd (SessionEnd RequestHalf ReplyHalf)) };
+
+    ghost view = { λ sink. sink.ends };
+}
+
+/// Whether a connection ended because nobody waited for its client any more, where it had its last turn so.
+fn is_cut(outcome: Result<Ended, SessionFault>, is_cutting: bool) -> bool {
+    match outcome {
+        Err(SessionFault::ReadFailed(_)) | Err(SessionFault::WriteFailed(_)) => is_cutting,
+        Err(_) | Ok(_) => false,
+    }
+}
+
+/// Whether the client of a connection that ended so may still be sending.
+fn may_still_send(outcome: Result<Ended, SessionFault>, is_cut: bool) -> bool {
+    match outcome {
+        Ok(_) => false,
+        Err(SessionFault::ReadFailed(_)) | Err(SessionFault::WriteFailed(_)) => is_cut,
+        Err(_) => true,
+    }
+}
+
+/// Logs that a connection ended because of a fault.
+fn log_fault<L: Log>(log: &L, peer: SocketAddr, fault: SessionFault) {
+    warn!(log; "connection from {peer} ended: {fault}");
+}
+
+/// Logs that a connection was closed while its client was silent.
+fn log_closed<L: Log>(log: &L, peer: SocketAddr) {
+    info!(log; "connection from {peer} closed");
+}
+
+/// Logs that a connection was closed for which memory was refused.
+pub(crate) fn log_refused<L: Log>(log: &L, peer: SocketAddr) {
+    warn!(log; "connection from {peer} closed: no memory");
+}
+
+/// Logs how a connection ended.
+fn log_end<L: Log>(log: &L, peer: SocketAddr, outcome: Result<Ended, SessionFault>, is_cut: bool) {
+    if is_cut {
+        return log_closed(log, peer);
+    }
+    match outcome {
+        Ok(_) => info!(log; "connection from {peer} ended"),
+        Err(fault) => log_fault(log, peer, fault),
+    }
+}
+
+impl<'a, X> LogSink<'a, X> {
+    /// One that was told none. The socket that lingers goes to this door.
+    pub(crate) fn new(rt: &'a X, alloc: Global, door: Arc<Door, Global>) -> LogSink<'a, X>
+        ensures { result ≡ [] }
+    {
+        LogSink {
+            rt,
+            alloc,
+            door,
+            room: 0,
+            ends: GhostList::new(),
+        }
+    }
+}
+
+impl<'a, X: Log + Clock + Wait> LogSink<'a, X> {
+    /// Makes room for so many slots, and puts it to the door.
+    fn widen(&mut self, slots: usize) -> Result<(), AllocError>
+        ensures { self.new ≡ self.old }
+    {
+        let wider: Vec<Slot> = Vec::with_capacity(self.alloc, slots)?;
+        self.room = wider.capacity();
+        self.door.put_wider(self.rt, wider);
+        Ok(())
+    }
+
+    /// Logs an end, and has the socket linger where the client may still be sending.
+    fn finish(
+        &self,
+        peer: SocketAddr,
+        outcome: Result<Ended, SessionFault>,
+        socket: Option<Socket>,
+    ) {
+        let is_cut = is_cut(outcome, self.door.is_cutting());
+        log_end(self.rt, peer, outcome, is_cut);
+        self.door.count_end();
+        if let Some(socket) = socket {
+            if may_still_send(outcome, is_cut) {
+                self.door.linger(self.rt, socket);
+            }
+        }
+    }
+}
+
+impl<'a, X: Log + Clock + Wait> EndSink<RequestHalf, ReplyHalf> for LogSink<'a, X> {
+    ghost told = { λ sink. sink };
+
+    ghost has_room = { λ sink n. Unit {0} };
+
+    fn make_room(&mut self, more: usize) -> bool {
+        more <= self.room || self.widen(more.saturating_mul(2)).is_ok() || self.widen(more).is_ok()
+    }
+
+    fn tell(
+        &mut self,
+        _shared: &Shared,
+        number: usize,
+        _job: Snapshot<Job<RequestHalf, ReplyHalf>>,
+        end: ConnectionEnd,
+    )
+        ensures { self.new ≡ self.old ++ record { number = number; end = end } ∷ [] }
+    {
+        let told = NumberedEnd { number, end };
+        self.ends.push(&told);
+        let NumberedEnd { number: _, end } = told;
+        let SessionEnd {
+            result,
+            mut reader,
+            writer: _,
+        } = end;
+        self.finish(reader.peer(), result, reader.take_socket());
+    }
+
+    fn refuse(&mut self, _shared: &Shared, _number: usize, job: Job<RequestHalf, ReplyHalf>)
+        ensures { self.new ≡ self.old }
+    {
+        log_refused(self.rt, job.reader.peer());
+        self.door.count_end();
+    }
+}

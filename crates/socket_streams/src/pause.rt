@@ -1,0 +1,5 @@
+//! How long a server pauses before it tries again.
+
+/// The pause, in milliseconds, before a connection is accepted again for which there was no descriptor or no memory, before an input is
+/// read again that had nothing yet, and after a wait that failed.
+pub const PAUSE_MILLIS: u64 = 10;

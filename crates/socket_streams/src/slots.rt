@@ -1,0 +1,187 @@
+//! What a worker has of its connections beside their sessions, and which of them are ready.
+
+use crate::door::Door;
+use std::alloc::Global;
+use std::sync::Wait;
+
+/// How long a connection is waited for.
+#[derive(Clone, Copy, Drop, PartialEq, Eq)]
+pub(crate) enum Patience {
+    /// Until it is ready again.
+    Open,
+    /// It is to have an ordinary turn, since it was silent for too long: where that doesn't go on, it is waited for no more.
+    Asked,
+    /// No more: in its next turns it ends where it would have to wait.
+    Gone,
+}
+
+/// What a worker has of the connection in a slot.
+#[derive(Clone, Copy, Drop)]
+pub(crate) struct Slot {
+    /// When something moved last, in milliseconds since the worker began.
+    moved: u64,
+    /// The slot behind it in the queue of those that are ready.
+    next: usize,
+    patience: Patience,
+    /// Whether a connection is open.
+    is_open: bool,
+    /// Whether it stands in the queue of those that are to have a turn.
+    is_ready: bool,
+}
+
+/// The slots of a worker, and the queue of those that are to have a turn.
+///
+/// The queue goes from slot to slot, so that what becomes ready takes no memory.
+#[derive(Drop)]
+pub(crate) struct Slots {
+    alloc: Global,
+    slots: Vec<Slot>,
+    /// The first that is to have a turn, where there is one.
+    first: usize,
+    /// The last one.
+    last: usize,
+    /// How many are to have a turn.
+    ready: usize,
+}
+
+/// The slots, followed by room for more.
+fn widened(slots: &[Slot], mut wider: Vec<Slot>) -> Option<Vec<Slot>> {
+    wider.extend_from_slice(slots).ok()?;
+    Some(wider)
+}
+
+impl Slots {
+    /// There is none.
+    pub(crate) fn new(alloc: Global) -> Slots {
+        Slots {
+            alloc,
+            slots: Vec::new(alloc),
+            first: 0,
+            last: 0,
+            ready: 0,
+        }
+    }
+
+    /// How many slots there are.
+    pub(crate) fn len(&self) -> usize {
+        self.slots.len()
+    }
+
+    /// Moves the slots to where the sink made room for more, if there is none here.
+    fn widen<X: Wait>(&mut self, rt: &X, door: &Door) {
+        if self.slots.len() < self.slots.capacity() {
+            return;
+        }
+        let wider = door.take_wider(rt, self.alloc);
+        if wider.capacity() > self.slots.len() {
+            if let Some(slots) = widened(self.slots.as_slice(), wider) {
+                self.slots = slots;
+            }
+        }
+    }
+
+    /// A connection was opened in a slot at this time. False where memory for the slot is refused.
+    pub(crate) fn begin<X: Wait>(&mut self, rt: &X, door: &Door, slot: usize, now: u64) -> bool {
+        if slot >= self.slots.len() {
+            self.widen(rt, door);
+            let free = Slot {
+                moved: 0,
+                next: 0,
+                patience: Patience::Open,
+                is_open: false,
+                is_ready: false,
+            };
+            if self.slots.push(free).is_err() {
+                return false;
+            }
+        }
+        let Some(one) = self.slots.get_mut(slot) else {
+            return false;
+        };
+        one.moved = now;
+        one.patience = Patience::Open;
+        one.is_open = true;
+        true
+    }
+
+    /// The connection in a slot has ended.
+    pub(crate) fn end(&mut self, slot: usize) {
+        if let Some(one) = self.slots.get_mut(slot) {
+            one.is_open = false;
+        }
+    }
+
+    /// How long the connection in a slot is waited for; None where none is open.
+    pub(crate) fn patience(&self, slot: usize) -> Option<Patience> {
+        match self.slots.get(slot) {
+            Some(one) if one.is_open => Some(one.patience),
+            _ => None,
+        }
+    }
+
+    /// From now on the connection in a slot is waited for so long.
+    pub(crate) fn set_patience(&mut self, slot: usize, patience: Patience) {
+        if let Some(one) = self.slots.get_mut(slot) {
+            one.patience = patience;
+        }
+    }
+
+    /// Something of the connection in a slot moved at this time.
+    pub(crate) fn note_move(&mut self, slot: usize, now: u64) {
+        if let Some(one) = self.slots.get_mut(slot) {
+            one.moved = now;
+        }
+    }
+
+    /// Whether the connection in a slot is waited for, and was silent since then.
+    pub(crate) fn is_silent(&self, slot: usize, since: u64) -> bool {
+        match self.slots.get(slot) {
+            Some(one) => one.is_open && one.patience == Patience::Open && one.moved < since,
+            None => false,
+        }
+    }
+
+    /// Marks a slot as one that is ready. False where it was, and where there is none.
+    fn mark(&mut self, slot: usize) -> bool {
+        match self.slots.get_mut(slot) {
+            Some(one) => {
+                let is_new = !one.is_ready;
+                one.is_ready = true;
+                is_new
+            }
+            None => false,
+        }
+    }
+
+    /// Puts a slot at the end of the queue of those that are ready, if it isn't there.
+    pub(crate) fn mark_ready(&mut self, slot: usize) {
+        if !self.mark(slot) {
+            return;
+        }
+        if self.ready == 0 {
+            self.first = slot;
+        } else if let Some(before) = self.slots.get_mut(self.last) {
+            before.next = slot;
+        }
+        self.last = slot;
+        self.ready = self.ready.saturating_add(1);
+    }
+
+    /// Takes the first slot out of the queue. It may be put there again.
+    pub(crate) fn take_ready(&mut self) -> Option<usize> {
+        if self.ready == 0 {
+            return None;
+        }
+        let slot = self.first;
+        let one = self.slots.get_mut(slot)?;
+        one.is_ready = false;
+        self.first = one.next;
+        self.ready -= 1;
+        Some(slot)
+    }
+
+    /// How many slots are ready.
+    pub(crate) fn ready(&self) -> usize {
+        self.ready
+    }
+}

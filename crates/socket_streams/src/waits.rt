@@ -1,0 +1,125 @@
+//! What the threads of a run wait with.
+ghost use Rattle.std.specs.Prelude.{◌≡◌, [], length, IfOk};
+ghost use Rattle.job_pool.specs.Lists.{Every};
+
+use crate::desk::SocketDesk;
+use crate::door::{Door, SocketBell};
+use crate::log_sink::LogSink;
+use crate::stop::Stop;
+use mio::{Events, Poll, Token, Waker};
+use std::alloc::Global;
+use std::io;
+use std::net::Net;
+use std::rt::Clock;
+use std::sync::{Arc, Wait};
+use worker_pool::Seat;
+
+/// The token of a waker; those of connections are their slots, which are below it.
+pub(crate) const WAKER: usize = 18_446_744_073_709_551_615;
+
+/// How many events one wait gives at most.
+const MAX_EVENTS: usize = 256;
+
+/// What a thread waits with.
+#[derive(Drop)]
+pub struct Waits {
+    pub(crate) poll: Poll,
+    pub(crate) events: Events<Global>,
+}
+
+/// What a worker waits with, and what it shares with those who wake it.
+#[derive(Drop)]
+pub struct WorkerWaits {
+    waits: Waits,
+    door: Arc<Door, Global>,
+}
+
+/// What the threads of a run wait with.
+#[derive(Drop)]
+pub struct RunWaits {
+    pub accepting: Waits,
+    pub workers: Vec<WorkerWaits>,
+}
+
+/// What a worker over sockets is started with.
+pub type SocketSeat<'a, 's, X> = Seat<LogSink<'a, X>, SocketDesk<'a, 's, X>, SocketBell>;
+
+/// What a thread waits with, and how another one wakes it.
+fn new_waits<X: Net>(net: &X, alloc: Global) -> io::Result<(Waits, Waker)> {
+    let poll = Poll::new(net)?;
+    let events = Events::with_capacity(alloc, MAX_EVENTS)?;
+    let waker = Waker::new(poll.registry(), Token(WAKER))?;
+    Ok((Waits { poll, events }, waker))
+}
+
+/// What a further worker waits with, whose door is one more of these.
+fn new_worker<X: Clock + Net>(
+    rt: &X,
+    alloc: Global,
+    doors: &mut Vec<Arc<Door, Global>>,
+) -> io::Result<WorkerWaits> {
+    let (waits, waker) = new_waits(rt, alloc)?;
+    let door = Arc::new(alloc, Door::new(rt, alloc, waker))?;
+    doors.push(Arc::try_clone(&door)?)?;
+    Ok(WorkerWaits { waits, door })
+}
+
+/// What the threads of a run of so many workers wait with, and what stops the run. Refused where memory is, or a descriptor.
+pub fn new_run_waits<X: Clock + Net>(
+    rt: &X,
+    alloc: Global,
+    workers: u16,
+) -> io::Result<(RunWaits, Stop)>
+    ensures { IfOk result (λ made. length made.0.workers.items ≡ workers) }
+{
+    let (accepting, waker) = new_waits(rt, alloc)?;
+    let mut waits = Vec::new(alloc);
+    let mut doors = Vec::new(alloc);
+    for _ in 0..workers {
+        waits.push(new_worker(rt, alloc, &mut doors)?)?;
+    }
+    let made = RunWaits {
+        accepting,
+        workers: waits,
+    };
+    Ok((made, Stop::new(waker, doors)))
+}
+
+/// What a worker is started with that waits with these.
+fn new_seat<'a, 's, X: Clock + Wait>(
+    rt: &'a X,
+    alloc: Global,
+    stop: &'s Stop,
+    worker: WorkerWaits,
+    idle_seconds: Option<u32>,
+) -> io::Result<SocketSeat<'a, 's, X>>
+    ensures { IfOk result (λ seat. seat.sink ≡ []) }
+{
+    let WorkerWaits { waits, door } = worker;
+    let of_sink = Arc::try_clone(&door)?;
+    let of_bell = Arc::try_clone(&door)?;
+    Ok(Seat {
+        sink: LogSink::new(rt, alloc, of_sink),
+        readiness: SocketDesk::new(rt, alloc, stop, door, waits, idle_seconds),
+        bell: SocketBell { door: of_bell },
+    })
+}
+
+/// What the workers of a run are started with that is stopped so. A connection is closed after so many seconds without a byte, if it is. Refused
+/// where memory is.
+pub fn new_seats<'a, 's, X: Clock + Wait>(
+    rt: &'a X,
+    alloc: Global,
+    stop: &'s Stop,
+    workers: Vec<WorkerWaits>,
+    idle_seconds: Option<u32>,
+) -> io::Result<Vec<SocketSeat<'a, 's, X>>>
+    ensures count { IfOk result (λ seats. length seats.items ≡ length workers.items) }
+    ensures new { IfOk result (λ seats. Every (λ seat. seat.sink ≡ []) seats.items) }
+{
+    let mut seats = Vec::new(alloc);
+    for worker in workers {
+        seats.push(new_seat(rt, alloc, stop, worker, idle_seconds)?)?;
+    }
+    Ok(seats)
+}
