@@ -2,16 +2,10 @@
 use Rattle.std.specs.Prelude.{◌≡◌, ◌+◌, ℕ, Option, Some, None, Result, Ok, Err}
 use Rattle.job_pool.specs.declared.jobs.JobFault.{JobFault}
 use Rattle.gate_node.specs.Gates.{Gates}
-use Rattle.gate_node.specs.Passes.{AreUnused}
 use Rattle.worker_pool.specs.declared.job.Job.{Job}
-use Rattle.worker_pool.specs.Serving.{IsForGates}
+pub use Rattle.socket_streams.specs.Arriving.{IsNewConnection}
 
 module _ {I O : Type 0} where
-  -- a connection by passes of these gates that have seen nothing
-  pub record IsNewConnection (gates : Gates) (job : Job I O) : Type 0 where
-    pub of_gates : IsForGates gates job
-    pub unused : AreUnused job.passes
-
   -- a connection, and one fewer is to come; none, where none is to come; or a fault
   abbrev pub IsNextConnection : Gates → ℕ → Result (Option (Job I O)) JobFault → ℕ → Type 0
   IsNextConnection gates left (Ok (Some job)) rest = IsNewConnection gates job × (left ≡ rest + 1)

@@ -1,6 +1,6 @@
 //! Accepting a connection for which the system may have no descriptor yet.
 use log::{Log, warn};
-use socket_server::{AcceptFault, PAUSE_MILLIS};
+use socket_streams::{AcceptFault, PAUSE_MILLIS};
 use std::net::{OpenListener, SocketAddr};
 use std::rt::Clock;
 use std::time::Duration;

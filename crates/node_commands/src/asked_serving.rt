@@ -1,15 +1,14 @@
 //! Serving as the options of a command line ask for.
 
-ghost use Rattle.std.specs.Prelude.{◌≡◌, ◌≤◌, length, map, Some, None, IfOk, IfSome};
+ghost use Rattle.std.specs.Prelude.{◌≡◌, ◌≤◌, length, Some, None, IfOk, IfSome};
 ghost use Rattle.node_commands.specs.Runs.{IsServedUntil};
 ghost use Rattle.node_commands.specs.Asked.{settings_of};
 
 use crate::fault::ServeFault;
 use crate::options::ServingOptions;
-use crate::until::{UntilSettings, serve_on_until};
+use crate::until::{ServedUntil, UntilSettings, serve_on_until};
 use log::Log;
 use ring_map::Ring;
-use socket_server::{LogSink, ServerOutcome, log_sinks};
 use std::alloc::Global;
 use std::io::{Read, Write};
 use std::net::{Net, TcpListener};
@@ -24,12 +23,13 @@ fn settings_of(options: ServingOptions, ring: Ring) -> UntilSettings
     let ServingOptions {
         connections,
         idle_seconds,
+        workers,
         run,
         sweep,
-        ..
     } = options;
     UntilSettings {
         connections,
+        workers,
         ring,
         run,
         sweep,
@@ -39,26 +39,22 @@ fn settings_of(options: ServingOptions, ring: Ring) -> UntilSettings
 
 /// Serves the connections of a listener on this ring, as [`serve_on_until`] does, in the way that these options ask for: by so many threads,
 /// until so many connections have ended, if there is such a number, or an input ends. The end of each connection is a line of the log.
-pub fn serve_as_asked<T, W, I>(
-    rt: &T,
+pub fn serve_as_asked<'a, T, W, I>(
+    rt: &'a T,
     alloc: Global,
     listener: TcpListener,
     ring: Ring,
     options: ServingOptions,
     until: Option<I>,
     writer: &mut W,
-) -> Result<ServerOutcome<LogSink>, ServeFault>
+) -> Result<ServedUntil<'a, T>, ServeFault>
 where
     T: Log + Clock + Net + Threads + Wait + Sync,
     W: Write,
     I: Read + Send + Drop,
 
-    // There were as many workers as were asked for, and they served over the gates of a new run of this number, on this ring and with this
-    // budget of its sweeps, as `serve_on_until` says.
-    ensures workers { IfOk result (λ outcome. length outcome.sinks.items ≡ options.workers) }
-    ensures served { IfOk result (λ outcome. IsServedUntil (settings_of options ring)
-        (map (λ sink. sink) outcome.sinks.items) outcome.tallies.items outcome.count_all
-        outcome.totals) }
+    // They were served over the gates of a new run of this number, on this ring and with this budget of its sweeps, as `serve_on_until` says.
+    ensures served { IfOk result (IsServedUntil (settings_of options ring)) }
 
     // No more connections were accepted than were asked for, and just as many where no input could end serving before.
     ensures most { IfOk result (λ outcome.
@@ -66,9 +62,6 @@ where
     ensures all { until ≡ None → IfOk result (λ outcome.
         options.connections ≡ Some outcome.connections) }
 {
-    let Ok(sinks) = log_sinks(alloc, options.workers) else {
-        return Err(ServeFault::NoMemory);
-    };
     let settings = settings_of(options, ring);
-    serve_on_until(rt, alloc, listener, &settings, sinks, until, writer)
+    serve_on_until(rt, alloc, listener, &settings, until, writer)
 }

@@ -1,8 +1,9 @@
 //! What the commands of the program do, over any streams and any listener.
 //!
 //! [`pipe`] serves one reader to one writer by a node of its own. [`serve_on`] serves the connections of a listener, many at a time, over
-//! the gates of one run (`worker_pool`). [`serve_on_until`] serves as many as come, each as it is ready, until so many have ended or an input ends
-//! (`socket_server`). [`serve_as_asked`] does so by the options of a command line: the program's `serve` is this one.
+//! the gates of one run (`worker_pool`), one at a time by each thread. [`serve_on_until`] serves as many as come, many by each thread, each as its
+//! socket is ready (`socket_streams`), until so many have ended or an input ends. [`serve_as_asked`] does so by the options of a command line: the
+//! program's `serve` is this one.
 //!
 //! ```text
 //! pipe(alloc, Ring::new(1)?, 1, 0, &mut reader, &mut writer)      // reader: 00 00 00 01 01, a ping
@@ -43,4 +44,4 @@ pub use halves::{ReplyHalf, RequestHalf};
 pub use options::ServingOptions;
 pub use serving::{Served, Settings, serve_on};
 pub use streams::pipe;
-pub use until::{UntilSettings, serve_on_until};
+pub use until::{ServedUntil, UntilSettings, serve_on_until};

@@ -9,11 +9,12 @@ pub struct ServingOptions {
     pub connections: Option<u64>,
     /// After how many seconds without a byte a connection is closed, if it is.
     pub idle_seconds: Option<u32>,
-    /// How many threads serve.
+    /// How many threads serve, from 1 to 64.
     pub workers: u16,
     /// The run's number.
     pub run: u32,
     /// How many dead keys are forgotten after an answer, at most.
     pub sweep: u32,
     ghost some_run: { 1 ≤ run },
+    ghost some_workers: { (1 ≤ workers) × (workers ≤ 64) },
 }

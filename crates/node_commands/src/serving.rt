@@ -46,7 +46,7 @@ fn log_ends<L: Log>(rt: &L, ends: &[End<RequestHalf, ReplyHalf>]) {
 }
 
 /// The fault of serving for a fault of the pool; where the pool had no further job, that for which there was none.
-fn serve_fault(fault: PoolFault, of_connections: ServeFault) -> ServeFault {
+pub(crate) fn serve_fault(fault: PoolFault, of_connections: ServeFault) -> ServeFault {
     match fault {
         PoolFault::NoMemory => ServeFault::NoMemory,
         PoolFault::NoThread => ServeFault::NoThread,

@@ -1,28 +1,32 @@
 //! Serving for as long as is wanted.
 
-ghost use Rattle.std.specs.Prelude.{◌≡◌, ◌≤◌, [], length, map, Some, None, IfOk, IfSome};
-ghost use Rattle.std.specs.List.{All};
-ghost use Rattle.node_commands.specs.Runs.{IsServedUntil};
+ghost use Rattle.std.specs.Prelude.{◌≡◌, ◌≢◌, ◌≤◌, None, Some, false, length, IfOk, IfSome};
+ghost use Rattle.std.specs.IoError.{error_kind};
+ghost use Rattle.node_commands.specs.Runs.{AreTold, IsServedUntil};
 
 use crate::fault::ServeFault;
 use crate::gates::new_shared;
 use crate::lines::report;
+use crate::serving::serve_fault;
 use log::Log;
 use ring_map::Ring;
-use socket_server::{EndSink, ServerFault, ServerOutcome, ServerSettings, serve_until};
+use socket_streams::{Arrivals, LogSink, RunWaits, Stop, new_run_waits, new_seats};
 use std::alloc::Global;
-use std::io;
-use std::io::{Read, Write};
+use std::io::{ErrorKind, Read, Write};
 use std::net::{Net, TcpListener};
 use std::rt::Clock;
 use std::sync::Wait;
-use std::thread::Threads;
+use std::thread::{Scope, Threads};
+use std::{io, thread};
+use worker_pool::{Open, Pool, Served, Shared};
 
 /// How a server for as many clients as come serves.
 #[derive(Clone, Copy)]
 pub struct UntilSettings {
     /// After how many connections no more are accepted, if there is such a number.
     pub connections: Option<u64>,
+    /// How many threads serve, each many connections: from 1 to 64.
+    pub workers: u16,
     /// The partitions of the keys.
     pub ring: Ring,
     /// The run's number, from 1 on.
@@ -33,20 +37,15 @@ pub struct UntilSettings {
     pub idle_seconds: Option<u32>,
 }
 
-impl From<ServerFault> for ServeFault {
-    ghost use Rattle.std.specs.Prelude.{◌≡◌};
-    ghost use Rattle.node_commands.specs.Runs.{serve_fault_of};
-
-    ghost from_gives = { λ server fault. fault ≡ serve_fault_of server };
-
-    fn from(fault: ServerFault) -> ServeFault {
-        match fault {
-            ServerFault::AcceptFailed => ServeFault::AcceptFailed,
-            ServerFault::NoThread => ServeFault::NoThread,
-            ServerFault::NoMemory => ServeFault::NoMemory,
-            ServerFault::BookFull => ServeFault::BookFull,
-        }
-    }
+/// What came of a server for as many clients as come.
+#[derive(Drop)]
+pub struct ServedUntil<'a, T> {
+    /// What the workers did with the connections that came to them, and what all that comes to.
+    pub served: Served<LogSink<'a, T>>,
+    /// How many connections were accepted.
+    pub connections: u64,
+    /// How many of them were closed before they came to a worker, for want of memory.
+    pub closed: u64,
 }
 
 /// Writes where the listener listens, in a line, as far as that can be done.
@@ -56,45 +55,169 @@ fn announce<W: Write>(listener: &TcpListener, writer: &mut W) -> io::Result<()> 
     writer.flush()
 }
 
-/// Serves all connections of a listener, each as it is ready, by a thread for each sink that has many of them, over the gates of a new run.
+/// Why what a thread waits with couldn't be made: for want of memory, of the process or of the system, or of a descriptor.
+fn setup_fault(error: &io::Error) -> ServeFault
+    ensures memory { error_kind error.now ≡ ErrorKind.OutOfMemory →
+        result ≡ ServeFault.NoMemory }
+    ensures descriptor { error_kind error.now ≢ ErrorKind.OutOfMemory →
+        result ≡ ServeFault.NoThread }
+{
+    if error.kind() == ErrorKind::OutOfMemory {
+        ServeFault::NoMemory
+    } else {
+        ServeFault::NoThread
+    }
+}
+
+/// Starts a thread that raises the stop at the end of an input, if there is one.
+fn start_reader<'s, X, T, I>(
+    scope: &'s Scope<'s, X>,
+    rt: &'s T,
+    stop: &'s Stop,
+    until: Option<I>,
+) -> Result<(), ServeFault>
+where
+    T: Clock + Threads + Wait + Sync,
+    I: Read + Send + Drop + 's,
+{
+    let Some(mut input) = until else {
+        return Ok(());
+    };
+    match scope.spawn(move || stop.raise_after(rt, &mut input)) {
+        Ok(_) => Ok(()),
+        Err(_) => Err(ServeFault::NoThread),
+    }
+}
+
+/// Serves the connections of a listener, by workers that wait with these.
+fn serve_over<'a, T>(
+    rt: &'a T,
+    alloc: Global,
+    listener: &TcpListener,
+    shared: &Shared,
+    settings: UntilSettings,
+    stop: &Stop,
+    waits: RunWaits,
+    can_stop: bool,
+) -> Result<ServedUntil<'a, T>, ServeFault>
+where
+    T: Log + Clock + Net + Threads + Wait + Sync,
+    requires workers { (1 ≤ length waits.workers.items) × (length waits.workers.items ≤ 64) }
+    ensures served { IfOk result (λ outcome. AreTold shared.now outcome.served
+        outcome.connections outcome.closed) }
+    ensures most { IfOk result (λ outcome.
+        IfSome settings.connections (λ limit. outcome.connections ≤ limit)) }
+    ensures all { can_stop ≡ false → IfOk result (λ outcome.
+        settings.connections ≡ Some outcome.connections) }
+{
+    let RunWaits { accepting, workers } = waits;
+    let Ok(seats) = new_seats(rt, alloc, stop, workers, settings.idle_seconds) else {
+        return Err(ServeFault::NoMemory);
+    };
+    let mut arrivals = match Arrivals::new(
+        rt,
+        alloc,
+        listener,
+        accepting,
+        shared,
+        stop,
+        settings.connections,
+        can_stop,
+    ) {
+        Ok(arrivals) => arrivals,
+        Err(error) => return Err(setup_fault(&error)),
+    };
+    match Pool::serve(rt, alloc, shared, &mut arrivals, seats, &Open) {
+        Ok(served) => Ok(ServedUntil {
+            served,
+            connections: arrivals.accepted(),
+            closed: arrivals.refused(),
+        }),
+        Err(fault) => Err(serve_fault(fault, ServeFault::AcceptFailed)),
+    }
+}
+
+/// The same, until an input ends, if there is one.
+fn serve_until_end<'a, T, I>(
+    rt: &'a T,
+    alloc: Global,
+    listener: &TcpListener,
+    shared: &Shared,
+    settings: UntilSettings,
+    until: Option<I>,
+) -> Result<ServedUntil<'a, T>, ServeFault>
+where
+    T: Log + Clock + Net + Threads + Wait + Sync,
+    I: Read + Send + Drop,
+    requires workers { (1 ≤ settings.workers) × (settings.workers ≤ 64) }
+    ensures served { IfOk result (λ outcome. AreTold shared.now outcome.served
+        outcome.connections outcome.closed) }
+    ensures most { IfOk result (λ outcome.
+        IfSome settings.connections (λ limit. outcome.connections ≤ limit)) }
+    ensures all { until ≡ None → IfOk result (λ outcome.
+        settings.connections ≡ Some outcome.connections) }
+{
+    let (waits, stop) = match new_run_waits(rt, alloc, settings.workers) {
+        Ok(made) => made,
+        Err(error) => return Err(setup_fault(&error)),
+    };
+    let can_stop = until.is_some();
+    thread::scope(
+        thread::scope_env(),
+        rt,
+        |scope| -> Result<ServedUntil<'_, T>, ServeFault>
+            requires workers { (1 ≤ length waits.workers.items) × (length waits.workers.items ≤ 64) }
+            requires stops { until ≡ None → can_stop ≡ false }
+            ensures served { IfOk result (λ outcome. AreTold shared.entry.now outcome.served
+                outcome.connections outcome.closed) }
+            ensures most { IfOk result (λ outcome.
+                IfSome settings.connections (λ limit. outcome.connections ≤ limit)) }
+            ensures all { until ≡ None → IfOk result (λ outcome.
+                settings.connections ≡ Some outcome.connections) }
+        {
+            start_reader(scope, rt, &stop, until)?;
+            let served = serve_over(
+                rt, alloc, listener, shared, settings, &stop, waits, can_stop,
+            );
+            stop.close();
+            served
+        },
+    )
+}
+
+/// Serves all connections of a listener, each as it is ready, by threads that have many of them each, over the gates of a new run.
 ///
 /// It serves until as many connections were accepted as are to be and all of them have ended by themselves, or until an input ends or the
 /// listener fails, when it ends them. One for which memory is refused is closed, and is one of those that were accepted. It writes
 /// `listening ADDRESS` before the first connection is accepted, and the totals at the end. A failed write of these is passed over. The log
-/// has a line for each connection when it is accepted; its end is given to the sink of its thread.
+/// has a line for each connection when it is accepted, and one when it has ended.
 ///
-/// There is one history of the primary of each partition, legal, and after each step of each connection its thread's passes have seen
-/// beginnings of these histories. So each reply is at a position of the history of its key's vnode
+/// There is one history of the primary of each partition, legal, and after each step of each session its passes have seen beginnings of
+/// these histories. So each reply is at a position of the history of its key's vnode
 /// ([`replies_are_at_positions`](gate_node::replies_are_at_positions)), and what two connections are told of one vnode fits together. The
 /// tallies are of the whole of these histories, in the order of the partitions, each of one look after the threads were joined, made
-/// again where a thread had seen more. Order in real time isn't said, nor any order between vnodes. Where memory is refused for a tally, it is
+/// again where a session had seen more. Order in real time isn't said, nor any order between vnodes. Where memory is refused for a tally, it is
 /// refused with `NoMemory`; what the connections did stays.
-pub fn serve_on_until<T, W, S, I>(
-    rt: &T,
+pub fn serve_on_until<'a, T, W, I>(
+    rt: &'a T,
     alloc: Global,
     listener: TcpListener,
     settings: &UntilSettings,
-    sinks: Vec<S>,
     until: Option<I>,
     writer: &mut W,
-) -> Result<ServerOutcome<S>, ServeFault>
+) -> Result<ServedUntil<'a, T>, ServeFault>
 where
     T: Log + Clock + Net + Threads + Wait + Sync,
     W: Write,
-    S: EndSink + Send + Drop,
     I: Read + Send + Drop,
+    requires workers { (1 ≤ settings.now.workers) × (settings.now.workers ≤ 64) }
     requires run { 1 ≤ settings.now.run }
-    requires unused { All (λ sink. S.given sink ≡ []) sinks.items }
 
-    // There was a worker for each sink. Each served its connections by one node over the gates of a new run, until all of them had ended;
-    // its sink was given each of their ends, once, and nothing else; and the totals are what all workers counted, from zero. There is one
-    // history of the primary of each partition, legal: after each step of each connection the passes have seen beginnings of these
-    // histories, and the tallies are of the whole of them. No partition of the run is diverted; so where the tallies count all of the histories
-    // (`count_all`), each reply of each connection is the sibling register's (`served_replies_are_legal` of `socket_server`).
-    ensures workers { IfOk result (λ outcome.
-        length outcome.sinks.items ≡ length sinks.items) }
-    ensures served { IfOk result (λ outcome. IsServedUntil settings.now
-        (map S.given outcome.sinks.items) outcome.tallies.items outcome.count_all outcome.totals) }
+    // Each connection that came to a worker was served over the gates of a new run, in one history of each vnode, and its end was told the
+    // worker's sink, once, or it was refused there for want of memory; the tallies are those of the vnodes at the ends of these histories, and the
+    // totals are what the sessions counted. The connections that were accepted are those that came to a worker and those that were
+    // closed before.
+    ensures served { IfOk result (IsServedUntil settings.now) }
 
     // No more connections were accepted than were to be, and just as many where no input could end serving before.
     ensures most { IfOk result (λ outcome.
@@ -106,14 +229,9 @@ where
         return Err(ServeFault::NoMemory);
     };
     let _unheard = announce(&listener, writer);
-    let server = ServerSettings {
-        connections: settings.connections,
-        idle_seconds: settings.idle_seconds,
-    };
-    let outcome = match serve_until(rt, alloc, &listener, &shared, server, sinks, until) {
-        Ok(outcome) => outcome,
-        Err(fault) => return Err(ServeFault::from(fault)),
-    };
-    let _unheard = report(outcome.totals, writer);
-    Ok(outcome)
+    let outcome = serve_until_end(rt, alloc, &listener, &shared, *settings, until);
+    if let Ok(served) = &outcome {
+        let _unheard = report(served.served.totals, writer);
+    }
+    outcome
 }
