@@ -52,16 +52,13 @@ fn answers<W: Wait, T: Turnstile, G: Ledger, P: Ledger, D: Ledger, E: Ledger, R:
     result.is_ok() && written.as_slice() == session.replies
 }
 
-/// Whether a node gives memory up just where its thread keeps some back, as often as it is asked to, and replies may wait until it did.
+/// Whether a node gives memory up just where its thread keeps some back, as often as it is asked to.
 fn gives_up<W: Wait, T: Turnstile, G: Ledger, P: Ledger, D: Ledger, E: Ledger, R: Ledger>(
     alloc: Global,
     node: &GateNode<'_, W, T, G, P, D, E, R>,
     has_reserve: bool,
 ) -> bool {
-    node.has_room(alloc)
-        && node.make_room(alloc) == has_reserve
-        && node.has_room(alloc) != has_reserve
-        && node.make_room(alloc) == has_reserve
+    node.make_room(alloc) == has_reserve && node.make_room(alloc) == has_reserve
 }
 
 /// Whether a node with this share, whose thread keeps memory back, answers as the session says, and finds the book as full; and its passes.
@@ -78,8 +75,9 @@ fn serve_keeping<W: Wait, T: Turnstile, G: Ledger, P: Ledger, D: Ledger, E: Ledg
     requires { ArePassesOf shared.now passes }
     ensures { ArePassesOf shared.now result.1 }
 {
+    let reserve = Reserve::new(alloc);
     let node = GateNode::new(rt, shared, book, share, passes, turnstile);
-    let mut kept = node.with_reserve(Reserve::new(alloc));
+    let mut kept = node.with_reserve(&reserve);
     let is_given_up = gives_up(alloc, &kept, true);
     let is_answered = answers(alloc, &mut kept, session);
     let (share, passes, is_book_full) = kept.parts();

@@ -2,9 +2,9 @@
 ghost use Rattle.std.specs.Prelude.{◌≤◌, IfSome};
 
 mod clients;
+mod heard;
 mod listener;
 mod served;
-mod sinks;
 mod stopped;
 mod until;
 

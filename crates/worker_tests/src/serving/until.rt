@@ -1,18 +1,16 @@
 //! Servers for as many clients as come, until an input ends or so many have come, and their clients beside them.
 use crate::exchanges::accepted_of;
 use crate::serving::clients::{Action, Ports, Step, take_all};
+use crate::serving::heard::{are_told, has_ends};
 use crate::serving::is_written;
 use crate::serving::listener::listen;
 use crate::serving::served::{
     BAD_FRAME, BAD_LENGTH, NONE_OF_EACH, ONE_KEY, PUT_V_GET, PUT_W_GET, STORED_V, STORED_W,
     TWO_CLIENTS, TWO_OF_EACH,
 };
-use crate::serving::sinks::{are_told, has_one_of_each, new_sinks};
-use log::sink::Console;
+use log::sink::Locked;
 use log::{LevelFilter, Log, Logged};
 use node_commands::{UntilSettings, serve_on_until};
-use node_server::ConnectionEnd;
-use node_session::{Ended, SessionFault};
 use ring_map::Ring;
 use std::alloc::Global;
 use std::io::{ErrorKind, Read};
@@ -24,7 +22,7 @@ use std::sync::atomic::{AtomicBool, Ordering};
 use std::test::*;
 use std::thread::Threads;
 use std::time::Duration;
-use std::{io, thread};
+use std::{io, str, thread};
 
 /// An input that ends once that is said, and until then says that it has nothing yet.
 #[derive(Drop)]
@@ -55,8 +53,8 @@ struct Server {
     idle_seconds: Option<u32>,
     steps: &'static [Step],
     connections: u64,
-    /// How the connections of the first clients end, by their addresses.
-    ends: &'static [ConnectionEnd],
+    /// How the connections of the first clients end, as the log says behind their addresses.
+    ends: &'static [&'static str],
     /// The line of the totals; none where a client doesn't wait for its replies.
     totals: Option<&'static str>,
 }
@@ -189,14 +187,7 @@ const SERVERS: &[Server] = &[
         shows: "clients that wait hold nobody up, and are ended with the input",
         steps: TWO_WAIT,
         connections: 3,
-        ends: &[
-            ConnectionEnd::Closed,
-            ConnectionEnd::Closed,
-            ConnectionEnd::Through(Ok(Ended {
-                replies: 2,
-                rest: 0,
-            })),
-        ],
+        ends: &["closed", "closed", "ended"],
         totals: ONE_OF_EACH,
         ..ONE_WORKER
     },
@@ -219,7 +210,7 @@ const SERVERS: &[Server] = &[
         shows: "a bad length ends its connection alone",
         steps: ONE_BAD_LENGTH,
         connections: 2,
-        ends: &[ConnectionEnd::Through(Err(SessionFault::BadFrame(1)))],
+        ends: &["ended: bad frame after 1 replies"],
         totals: ONE_OF_EACH,
         ..ONE_WORKER
     },
@@ -301,18 +292,18 @@ fn serves<R: Log + Clock + Net + Threads + Wait + Sync>(
     alloc: Global,
     listener: TcpListener,
     port: u16,
-    ports: &Ports,
     has_ended: &AtomicBool,
     server: &Server,
 ) -> bool {
     let Some(ring) = Ring::new(1) else {
         return false;
     };
-    let Ok(sinks) = new_sinks(alloc, server.workers) else {
+    if server.workers < 1 || server.workers > 64 {
         return false;
-    };
+    }
     let settings = UntilSettings {
         connections: server.limit,
+        workers: server.workers,
         ring,
         run: 1,
         sweep: 0,
@@ -324,14 +315,21 @@ fn serves<R: Log + Clock + Net + Threads + Wait + Sync>(
     } else {
         None
     };
-    let outcome = serve_on_until(rt, alloc, listener, &settings, sinks, input, &mut written);
-    match outcome {
+    match serve_on_until(rt, alloc, listener, &settings, input, &mut written) {
         Ok(outcome) => is_written(alloc, written.as_slice(), port, server.totals)
             && outcome.connections == server.connections
-            && has_one_of_each(outcome.sinks.as_slice(), server.connections)
-            && are_told(outcome.sinks.as_slice(), ports, server.ends)
-            && outcome.tallies.as_slice() == [accepted_of(outcome.totals)].as_slice()
-            && outcome.count_all,
+            && outcome.served.accepted == server.connections
+            && outcome.served.refused == 0
+            && outcome.served.tallies.as_slice() == [accepted_of(outcome.served.totals)].as_slice()
+            && outcome.served.count_all,
+        Err(_) => false,
+    }
+}
+
+/// Whether the log says how each connection ended, once.
+fn is_logged(alloc: Global, log: &[u8], ports: &Ports, server: &Server) -> bool {
+    match str::from_utf8(log) {
+        Ok(log) => has_ends(log, server.connections) && are_told(alloc, log, ports, server.ends),
         Err(_) => false,
     }
 }
@@ -339,26 +337,24 @@ fn serves<R: Log + Clock + Net + Threads + Wait + Sync>(
 // The threads are started in the test itself: both use the network, and of any runtime it isn't known that another thread may.
 #[test]
 fn clients_are_served_until_the_end(rt: HostRuntime) {
-    let quiet = Logged::new(rt, LevelFilter::Off, Console(rt));
     for server in SERVERS {
         let Some((listener, port)) = listen(&rt) else {
             panic!(rt; "no listener");
         };
+        let heard = Locked::new(rt, Vec::new(rt.alloc()));
+        let logged = Logged::new(rt, LevelFilter::Info, &heard);
         let ports = Ports::new();
         let has_ended = AtomicBool::new(false);
         let (is_served, are_steps_taken) = thread::join(
             &rt,
-            || serves(
-                &quiet,
-                rt.alloc(),
-                listener,
-                port,
-                &ports,
-                &has_ended,
-                server,
-            ),
+            || serves(&logged, rt.alloc(), listener, port, &has_ended, server),
             || take_all(&rt, rt.alloc(), port, &ports, &has_ended, server.steps),
         );
-        assert!(rt; is_served && are_steps_taken, "{}", server.shows);
+        let log = heard.into_inner();
+        assert!(rt;
+            is_served && are_steps_taken && is_logged(rt.alloc(), &log, &ports, server),
+            "{}",
+            server.shows
+        );
     }
 }
