@@ -6,7 +6,7 @@ use crate::server::{ServedJob, Server};
 use crate::sitting::Sitting;
 use crate::stream_readiness::StreamReadiness;
 use crate::tray::Tray;
-use gate_node::{GateNode, Shared, Turnstile};
+use gate_node::{GateNode, Reserve, Shared, Turnstile};
 use job_pool::{Moved, Readiness, Service, Turn};
 use std::alloc::Global;
 use std::marker::{Brand, Model, PhantomData};
@@ -124,6 +124,10 @@ where
         self.server.open(alloc, worker, job)
     }
 
+    fn make_room(&self, alloc: Global, worker: &Tray<G, P, D, E, R>) -> bool {
+        self.server.make_room(alloc, worker)
+    }
+
     fn step(
         &self,
         alloc: Global,
@@ -143,14 +147,38 @@ where
     }
 }
 
-/// What a worker waits with, which is shown the streams of a session.
+/// What a worker waits with, which is shown the streams of a session; and the worker's reserve, which its own thread fills once all threads were
+/// started.
 #[derive(Drop)]
-pub(crate) struct Watch<Y> {
-    pub(crate) streams: Y,
+pub(crate) struct Watch<'a, Y> {
+    streams: Y,
+    reserve: &'a Reserve,
+    is_filled: bool,
+    alloc: Global,
+}
+
+impl<'a, Y> Watch<'a, Y> {
+    /// With a reserve that isn't filled yet.
+    pub(crate) fn new(alloc: Global, streams: Y, reserve: &'a Reserve) -> Watch<'a, Y> {
+        Watch {
+            streams,
+            reserve,
+            is_filled: false,
+            alloc,
+        }
+    }
+
+    /// Fills the reserve, or as much of it as there is memory for, once that may be.
+    fn fill(&mut self, may_take_memory: bool) {
+        if may_take_memory && !self.is_filled {
+            let _is_whole = self.reserve.fill(self.alloc);
+            self.is_filled = true;
+        }
+    }
 }
 
 impl<'a, Y, H, X, T, I, O, G, P, D, E, R> Readiness<Host<'a, H, X, T, I, O, G, P, D, E, R>>
-    for Watch<Y>
+    for Watch<'a, Y>
 where
     Y: StreamReadiness<I, O>,
     H: OfGates + Sync,
@@ -165,6 +193,8 @@ where
     R: Ledger,
 {
     fn takes(&mut self, is_idle: bool) -> bool {
+        let may_take_memory = self.streams.may_take_memory();
+        self.fill(may_take_memory);
         self.streams.takes(is_idle)
     }
 
@@ -182,5 +212,7 @@ where
 
     fn wait<V: Wait>(&mut self, rt: &V, is_idle: bool) {
         self.streams.wait(rt, is_idle);
+        let may_take_memory = self.streams.may_take_memory();
+        self.fill(may_take_memory);
     }
 }

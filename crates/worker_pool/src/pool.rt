@@ -152,11 +152,13 @@ where
     let Ok(trays) = trays_of(alloc, stocks) else {
         return Err(PoolFault::NoMemory);
     };
+    let none = Vec::new(alloc);
     let server = Server {
         rt,
         shared,
         book: &book,
         turnstile,
+        reserves: none.as_slice(),
         jobs: PhantomData,
     };
     match job_pool::run(rt, alloc, &server, jobs, trays) {

@@ -20,7 +20,7 @@ use crate::server::Server;
 use crate::stream_readiness::StreamReadiness;
 use crate::teller::{Teller, either};
 use crate::tray::{Tray, stocks_of};
-use gate_node::{Passes, PoolFault, Shared, Turnstile, tallies_of};
+use gate_node::{Passes, PoolFault, Reserve, Shared, Turnstile, tallies_of};
 use job_pool::{Bell, Jobs, Station, Told, run_at};
 use stats_book::{Blanks, Book, Stock, close_stocks, open_stocks};
 use std::alloc::{AllocError, Global};
@@ -30,20 +30,22 @@ use std::sync::ledger::Ledger;
 use std::thread::Threads;
 
 /// What a worker of a run is started with.
-type StationOf<H, I, O, K, D, B, G, P, L, E, R> = Station<
+type StationOf<'a, H, I, O, K, D, B, G, P, L, E, R> = Station<
     Tray<G, P, L, E, R>,
     Teller<H, I, O, K>,
-    Watch<D>,
+    Watch<'a, D>,
     B,
 >;
 
-/// What a worker is started with that has this stock and this seat.
-fn new_station<H, I, O, K, D, B, G, P, L, E, R>(
+/// What the worker in a place is started with that has this stock, this seat and this reserve.
+fn new_station<'a, H, I, O, K, D, B, G, P, L, E, R>(
     alloc: Global,
     shared: &Shared,
     stock: Stock<G, P, L, E, R>,
     seat: Seat<K, D, B>,
-) -> Result<StationOf<H, I, O, K, D, B, G, P, L, E, R>, PoolFault>
+    place: usize,
+    reserve: &'a Reserve,
+) -> Result<StationOf<'a, H, I, O, K, D, B, G, P, L, E, R>, PoolFault>
 where
     H: OfGates,
     I: EndRead,
@@ -73,20 +75,32 @@ where
         bell,
     } = seat;
     Ok(Station {
-        worker: Tray::new(stock),
+        worker: Tray::new(stock, place),
         sink: Teller::new(sink, seen),
-        readiness: Watch { streams: readiness },
+        readiness: Watch::new(alloc, readiness, reserve),
         bell,
     })
 }
 
-/// What the workers are started with, each with one of these stocks.
-fn stations_of<H, I, O, K, D, B, G, P, L, E, R>(
+/// So many reserves, in which nothing is yet.
+fn reserves_of(alloc: Global, count: usize) -> Result<Vec<Reserve>, AllocError>
+    ensures { IfOk result (λ reserves. length reserves.items ≡ count) }
+{
+    let mut reserves = Vec::new(alloc);
+    for _ in 0..count {
+        reserves.push(Reserve::new(alloc))?;
+    }
+    Ok(reserves)
+}
+
+/// What the workers are started with, each with one of these stocks and the reserve in its place.
+fn stations_of<'a, H, I, O, K, D, B, G, P, L, E, R>(
     alloc: Global,
     shared: &Shared,
     stocks: Vec<Stock<G, P, L, E, R>>,
     seats: Vec<Seat<K, D, B>>,
-) -> Result<Vec<StationOf<H, I, O, K, D, B, G, P, L, E, R>>, PoolFault>
+    reserves: &'a [Reserve],
+) -> Result<Vec<StationOf<'a, H, I, O, K, D, B, G, P, L, E, R>>, PoolFault>
 where
     H: OfGates,
     I: EndRead,
@@ -102,6 +116,7 @@ where
     requires of_run { shared.now ≡ H.gates }
     requires zeros { Every (λ stock. stock ≡ zeros) stocks.items }
     requires count { length stocks.items ≡ length seats.items }
+    requires reserves { length reserves.now ≡ length seats.items }
     requires new { Every (IsNewSeat K.told K.has_room) seats.items }
     ensures new { IfOk result (λ stations. Every (IsNew (λ teller. teller.told)
         (λ teller n. K.has_room teller.sink n)) stations.items) }
@@ -116,7 +131,9 @@ where
         let Some(stock) = left.pop() else {
             unreachable!()
         };
-        let Ok(station) = new_station(alloc, shared, stock, seat) else {
+        let place = stations.len();
+        let reserve = &reserves[place];
+        let Ok(station) = new_station(alloc, shared, stock, seat, place, reserve) else {
             return Err(PoolFault::NoMemory);
         };
         let Ok(()) = stations.push(station) else {
@@ -269,8 +286,11 @@ where
     else {
         return Err(PoolFault::NoMemory);
     };
-    let Ok(stations) = stations_of::<H, I, O, K, Y, B, G, P, D, E, R>(alloc, shared, stocks, seats)
-    else {
+    let Ok(reserves) = reserves_of(alloc, seats.len()) else {
+        return Err(PoolFault::NoMemory);
+    };
+    let kept = reserves.as_slice();
+    let Ok(stations) = stations_of(alloc, shared, stocks, seats, kept) else {
         return Err(PoolFault::NoMemory);
     };
     let server = Server {
@@ -278,6 +298,7 @@ where
         shared,
         book: &book,
         turnstile,
+        reserves: kept,
         jobs: PhantomData,
     };
     let host = Host::<H, X, T, I, O, G, P, D, E, R>::new(server);
@@ -299,7 +320,8 @@ impl Pool {
     /// [`Pool::run`] has it, of which the tallies are; the totals are what all these sessions counted.
     ///
     /// A worker keeps its passes of the gates, which it lays together with those of each session that is over: a comparison of two
-    /// numbers for each partition and end. It keeps nothing else of a session that is over.
+    /// numbers for each partition and end. It keeps nothing else of a session that is over. Beside that each has half a MiB kept back for what
+    /// doesn't make the vnodes grow ([`gate_node::Reserve`]), which its own thread fills once its readiness says that it may take memory.
     ///
     /// Where it is refused, the workers that were started have been joined, what the sinks were told was so, and the sinks are let go:
     ///

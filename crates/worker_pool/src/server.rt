@@ -5,7 +5,7 @@ ghost use Rattle.gate_node.specs.Passes.{ArePassesOf};
 use crate::job::{End, EndRead, EndWrite, Job};
 use crate::sitting::Sitting;
 use crate::tray::Tray;
-use gate_node::{GateNode, Passes, Shared, Turnstile};
+use gate_node::{GateNode, Passes, Reserve, Shared, Turnstile};
 use job_pool::{Moved, Service};
 use stats_book::{Book, Share};
 use std::alloc::Global;
@@ -27,6 +27,8 @@ pub struct Server<'a, X, T, I, O, G: Ledger, P: Ledger, D: Ledger, E: Ledger, R:
     pub(crate) shared: &'a Shared,
     pub(crate) book: &'a Book<G, P, D, E, R>,
     pub(crate) turnstile: &'a T,
+    /// What each worker keeps back, in the workers' order. None where they keep nothing.
+    pub(crate) reserves: &'a [Reserve],
     pub(crate) jobs: PhantomData<Job<I, O>>,
 }
 
@@ -40,6 +42,19 @@ fn parts_of<X: Wait, T: Turnstile, G: Ledger, P: Ledger, D: Ledger, E: Ledger, R
     ensures full { result.2 ≡ false → node.entry.count.book_full ≡ false }
 {
     node.parts()
+}
+
+/// A node with what its worker keeps back, where it does.
+fn kept_by<'a, X: Wait, T: Turnstile, G: Ledger, P: Ledger, D: Ledger, E: Ledger, R: Ledger>(
+    node: GateNode<'a, X, T, G, P, D, E, R>,
+    reserve: Option<&'a Reserve>,
+) -> GateNode<'a, X, T, G, P, D, E, R>
+    ensures { result ≡ node.entry }
+{
+    match reserve {
+        Some(reserve) => node.with_reserve(reserve),
+        None => node,
+    }
 }
 
 impl<'a, X, T, I, O, G, P, D, E, R> Service for Server<'a, X, T, I, O, G, P, D, E, R>
@@ -96,8 +111,17 @@ where
             passes,
             self.turnstile,
         );
+        let node = kept_by(node, self.reserves.get(worker.place));
         let reads = self.shared.reads();
         Ok(Sitting::new(alloc, node, reader, writer, reads))
+    }
+
+    /// Gives the worker's reserve up, where it has one.
+    fn make_room(&self, _alloc: Global, worker: &Tray<G, P, D, E, R>) -> bool {
+        match self.reserves.get(worker.place) {
+            Some(reserve) => reserve.give_up(self.shared),
+            None => false,
+        }
     }
 
     fn step(

@@ -11,6 +11,9 @@ pub trait StreamReadiness<R: EndRead, W: EndWrite> {
     /// Whether a job is to be taken out of the queue now; `is_idle` where no session is open. A worker that has taken its stop mark isn't asked.
     fn takes(&mut self, is_idle: bool) -> bool;
 
+    /// Whether all threads of the run were started, so that the worker may take memory. It is woken when that comes.
+    fn may_take_memory(&self) -> bool;
+
     /// The session with these streams was opened in this slot, and is to have its first turn.
     fn begin(&mut self, slot: usize, reader: &R, writer: &W);
 

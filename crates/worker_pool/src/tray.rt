@@ -8,13 +8,15 @@ use std::alloc::{AllocError, Global};
 use std::marker::Model;
 use std::sync::ledger::Ledger;
 
-/// The shares of a book that a worker's sessions take and give back, and the bytes that a read comes into, which are lent to each step.
+/// The shares of a book that a worker's sessions take and give back, the bytes that a read comes into, which are lent to each step, and which
+/// of the run's reserves is the worker's, where it has them.
 ///
 /// Contracts see what the shares that came back have counted.
 #[derive(Drop)]
 pub struct Tray<G: Ledger, P: Ledger, D: Ledger, E: Ledger, R: Ledger> {
     stock: Stock<G, P, D, E, R>,
     pub(crate) piece: [u8; MAX_READ_LEN],
+    pub(crate) place: usize,
 }
 
 impl<G: Ledger, P: Ledger, D: Ledger, E: Ledger, R: Ledger> Model for Tray<G, P, D, E, R> {
@@ -26,13 +28,14 @@ impl<G: Ledger, P: Ledger, D: Ledger, E: Ledger, R: Ledger> Model for Tray<G, P,
 }
 
 impl<G: Ledger, P: Ledger, D: Ledger, E: Ledger, R: Ledger> Tray<G, P, D, E, R> {
-    /// Of a worker that has served nothing, with this stock.
-    pub(crate) fn new(stock: Stock<G, P, D, E, R>) -> Tray<G, P, D, E, R>
+    /// Of the worker in this place, which has served nothing, with this stock.
+    pub(crate) fn new(stock: Stock<G, P, D, E, R>, place: usize) -> Tray<G, P, D, E, R>
         ensures { result ≡ stock }
     {
         Tray {
             stock,
             piece: [0; MAX_READ_LEN],
+            place,
         }
     }
 
@@ -55,7 +58,11 @@ impl<G: Ledger, P: Ledger, D: Ledger, E: Ledger, R: Ledger> Tray<G, P, D, E, R> 
     fn into_stock(self) -> Stock<G, P, D, E, R>
         ensures { result ≡ self }
     {
-        let Tray { stock, piece: _ } = self;
+        let Tray {
+            stock,
+            piece: _,
+            place: _,
+        } = self;
         stock
     }
 }
@@ -69,7 +76,8 @@ pub(crate) fn trays_of<G: Ledger, P: Ledger, D: Ledger, E: Ledger, R: Ledger>(
 {
     let mut trays = Vec::with_capacity(alloc, stocks.len())?;
     for stock in stocks {
-        trays.push(Tray::new(stock))?;
+        let place = trays.len();
+        trays.push(Tray::new(stock, place))?;
     }
     Ok(trays)
 }
