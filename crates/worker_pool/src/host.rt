@@ -10,8 +10,8 @@ use gate_node::{GateNode, Reserve, Shared, Turnstile};
 use job_pool::{Moved, Readiness, Service, Turn};
 use std::alloc::Global;
 use std::marker::{Brand, Model, PhantomData};
-use std::sync::Wait;
 use std::sync::ledger::Ledger;
+use std::sync::{Mutex, Wait};
 
 /// Which gates a run is over. Each run picks its own, so that the passes of a worker are known to be of the gates of its jobs.
 pub trait OfGates {
@@ -147,31 +147,46 @@ where
     }
 }
 
+/// What the workers of a run keep back, in their order.
+#[derive(Drop)]
+pub(crate) struct Kept {
+    pub(crate) reserves: Vec<Reserve>,
+    /// Whose reserve is being filled has it.
+    pub(crate) filling: Mutex<()>,
+}
+
 /// What a worker waits with, which is shown the streams of a session; and the worker's reserve, which its own thread fills once all threads were
-/// started.
+/// started, one worker behind the other: an allocator may take much more for a thread for a moment than what it keeps.
 #[derive(Drop)]
 pub(crate) struct Watch<'a, Y> {
     streams: Y,
-    reserve: &'a Reserve,
+    kept: &'a Kept,
+    /// Which of the reserves is the worker's.
+    place: usize,
     is_filled: bool,
     alloc: Global,
 }
 
 impl<'a, Y> Watch<'a, Y> {
     /// With a reserve that isn't filled yet.
-    pub(crate) fn new(alloc: Global, streams: Y, reserve: &'a Reserve) -> Watch<'a, Y> {
+    pub(crate) fn new(alloc: Global, streams: Y, kept: &'a Kept, place: usize) -> Watch<'a, Y> {
         Watch {
             streams,
-            reserve,
+            kept,
+            place,
             is_filled: false,
             alloc,
         }
     }
 
     /// Fills the reserve, or as much of it as there is memory for, once that may be.
-    fn fill(&mut self, may_take_memory: bool) {
+    fn fill<V: Wait>(&mut self, rt: &V, may_take_memory: bool) {
         if may_take_memory && !self.is_filled {
-            let _is_whole = self.reserve.fill(self.alloc);
+            let held = self.kept.filling.lock(rt);
+            if let Some(reserve) = self.kept.reserves.as_slice().get(self.place) {
+                let _is_whole = reserve.fill(self.alloc);
+            }
+            drop(held);
             self.is_filled = true;
         }
     }
@@ -193,8 +208,6 @@ where
     R: Ledger,
 {
     fn takes(&mut self, is_idle: bool) -> bool {
-        let may_take_memory = self.streams.may_take_memory();
-        self.fill(may_take_memory);
         self.streams.takes(is_idle)
     }
 
@@ -213,6 +226,6 @@ where
     fn wait<V: Wait>(&mut self, rt: &V, is_idle: bool) {
         self.streams.wait(rt, is_idle);
         let may_take_memory = self.streams.may_take_memory();
-        self.fill(may_take_memory);
+        self.fill(rt, may_take_memory);
     }
 }

@@ -11,7 +11,7 @@ ghost use Rattle.worker_pool.specs.Tellers.{AreApart, IsFaultAfterTold, IsNewSea
 ghost use Rattle.worker_pool.specs.Telling.{LeavesTold, TellsSource};
 
 use crate::end_sink::EndSink;
-use crate::host::{Host, OfGates, Watch};
+use crate::host::{Host, Kept, OfGates, Watch};
 use crate::job::{EndRead, EndWrite, Job};
 use crate::pool::{Pool, SHARES, fault_of};
 use crate::seat::Seat;
@@ -25,8 +25,8 @@ use job_pool::{Bell, Jobs, Station, Told, run_at};
 use stats_book::{Blanks, Book, Stock, close_stocks, open_stocks};
 use std::alloc::{AllocError, Global};
 use std::marker::{Brand, PhantomData};
-use std::sync::Wait;
 use std::sync::ledger::Ledger;
+use std::sync::{Mutex, Wait};
 use std::thread::Threads;
 
 /// What a worker of a run is started with.
@@ -37,14 +37,14 @@ type StationOf<'a, H, I, O, K, D, B, G, P, L, E, R> = Station<
     B,
 >;
 
-/// What the worker in a place is started with that has this stock, this seat and this reserve.
+/// What the worker in a place is started with that has this stock and this seat.
 fn new_station<'a, H, I, O, K, D, B, G, P, L, E, R>(
     alloc: Global,
     shared: &Shared,
     stock: Stock<G, P, L, E, R>,
     seat: Seat<K, D, B>,
     place: usize,
-    reserve: &'a Reserve,
+    kept: &'a Kept,
 ) -> Result<StationOf<'a, H, I, O, K, D, B, G, P, L, E, R>, PoolFault>
 where
     H: OfGates,
@@ -77,20 +77,21 @@ where
     Ok(Station {
         worker: Tray::new(stock, place),
         sink: Teller::new(sink, seen),
-        readiness: Watch::new(alloc, readiness, reserve),
+        readiness: Watch::new(alloc, readiness, kept, place),
         bell,
     })
 }
 
 /// So many reserves, in which nothing is yet.
-fn reserves_of(alloc: Global, count: usize) -> Result<Vec<Reserve>, AllocError>
-    ensures { IfOk result (λ reserves. length reserves.items ≡ count) }
-{
+fn reserves_of(alloc: Global, count: usize) -> Result<Kept, AllocError> {
     let mut reserves = Vec::new(alloc);
     for _ in 0..count {
         reserves.push(Reserve::new(alloc))?;
     }
-    Ok(reserves)
+    Ok(Kept {
+        reserves,
+        filling: Mutex::new(()),
+    })
 }
 
 /// What the workers are started with, each with one of these stocks and the reserve in its place.
@@ -99,7 +100,7 @@ fn stations_of<'a, H, I, O, K, D, B, G, P, L, E, R>(
     shared: &Shared,
     stocks: Vec<Stock<G, P, L, E, R>>,
     seats: Vec<Seat<K, D, B>>,
-    reserves: &'a [Reserve],
+    kept: &'a Kept,
 ) -> Result<Vec<StationOf<'a, H, I, O, K, D, B, G, P, L, E, R>>, PoolFault>
 where
     H: OfGates,
@@ -116,7 +117,6 @@ where
     requires of_run { shared.now ≡ H.gates }
     requires zeros { Every (λ stock. stock ≡ zeros) stocks.items }
     requires count { length stocks.items ≡ length seats.items }
-    requires reserves { length reserves.now ≡ length seats.items }
     requires new { Every (IsNewSeat K.told K.has_room) seats.items }
     ensures new { IfOk result (λ stations. Every (IsNew (λ teller. teller.told)
         (λ teller n. K.has_room teller.sink n)) stations.items) }
@@ -132,8 +132,7 @@ where
             unreachable!()
         };
         let place = stations.len();
-        let reserve = &reserves[place];
-        let Ok(station) = new_station(alloc, shared, stock, seat, place, reserve) else {
+        let Ok(station) = new_station(alloc, shared, stock, seat, place, kept) else {
             return Err(PoolFault::NoMemory);
         };
         let Ok(()) = stations.push(station) else {
@@ -286,11 +285,10 @@ where
     else {
         return Err(PoolFault::NoMemory);
     };
-    let Ok(reserves) = reserves_of(alloc, seats.len()) else {
+    let Ok(kept) = reserves_of(alloc, seats.len()) else {
         return Err(PoolFault::NoMemory);
     };
-    let kept = reserves.as_slice();
-    let Ok(stations) = stations_of(alloc, shared, stocks, seats, kept) else {
+    let Ok(stations) = stations_of(alloc, shared, stocks, seats, &kept) else {
         return Err(PoolFault::NoMemory);
     };
     let server = Server {
@@ -298,7 +296,7 @@ where
         shared,
         book: &book,
         turnstile,
-        reserves: kept,
+        reserves: kept.reserves.as_slice(),
         jobs: PhantomData,
     };
     let host = Host::<H, X, T, I, O, G, P, D, E, R>::new(server);
