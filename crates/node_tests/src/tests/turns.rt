@@ -1,6 +1,7 @@
 //! A session over streams that need not wait, taken step by step to its end.
 
 ghost use Rattle.node_session.specs.Courses.{Fits};
+ghost use Rattle.std.specs.Prelude.{◌<◌};
 
 use crate::tests::sessions::{Session, joined};
 use crate::tests::streams::{Call, Channel, Trouble, attempt};
