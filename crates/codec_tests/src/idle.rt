@@ -1,4 +1,4 @@
-//! What a framer keeps in which nothing is left, for `scripts/count-allocations`: each mark is an allocation of a size that no
+//! What a framer keeps in which nothing is left, for `scripts/maintain/count-allocations`: each mark is an allocation of a size that no
 //! other here has, and the script counts those between the two of a test.
 
 use pb_frame::{FrameFault, Framer, MAX_REQUEST_LEN};

@@ -5,9 +5,10 @@ ghost use Rattle.std.specs.Prelude.{◌≡◌, ◌≤◌, ◌++◌, [], length, 
 use crate::decode::{Header, decode_header};
 use crate::fault::FrameFault;
 use crate::frame::Frame;
-use crate::idle::shrink_empty;
+use crate::idle::{return_room, shrink_empty};
 use std::alloc::Global;
 use std::marker::Model;
+use std::mem;
 
 /// The bytes of a stream that were fed and not yet taken in frames.
 ///
@@ -96,6 +97,54 @@ impl Framer {
             Ok(()) => Ok(()),
             Err(_) => Err(FrameFault::NoMemory),
         }
+    }
+
+    /// Goes over to a lent buffer where a piece of so many bytes has room there behind what is left, and none in its own: what is left is moved there, and
+    /// the buffers are exchanged. Takes no memory, and the stream stays as it is.
+    pub fn lend(&mut self, room: &mut Vec<u8>, more: usize)
+        ensures { self.new ≡ self.old }
+    {
+        let own = self.bytes.len().saturating_add(more);
+        let lent = self.rest().saturating_add(more);
+        if self.bytes.capacity() < own && lent <= room.capacity() {
+            self.move_into(room);
+        }
+    }
+
+    /// Moves what is left into another buffer, which has room for it, and exchanges the two.
+    fn move_into(&mut self, room: &mut Vec<u8>)
+        ensures { self.new ≡ self.old }
+    {
+        room.clear();
+        if room.extend_from_slice(&self.bytes[self.start..]).is_ok() {
+            mem::swap(&mut self.bytes, room);
+            self.start = 0;
+        }
+    }
+
+    /// Where nothing is left, gives its buffer back in exchange for a smaller one, where it has at most `most` bytes of memory. Takes none, and the
+    /// stream stays as it is.
+    pub fn give_back(&mut self, room: &mut Vec<u8>, most: usize)
+        ensures { self.new ≡ self.old }
+    {
+        if self.start == self.bytes.len() {
+            return_room(&mut self.bytes, room, most);
+            self.start = 0;
+        }
+    }
+
+    /// Its buffer, emptied: what is left is let go.
+    pub fn into_room(self) -> Vec<u8>
+        ensures { result.items ≡ [] }
+    {
+        let Framer {
+            mut bytes,
+            start: _,
+            limit: _,
+            fault: _,
+        } = self;
+        bytes.clear();
+        bytes
     }
 
     /// Moves what is left to the front, once at least as many bytes before it were taken. So over all

@@ -11,7 +11,8 @@
 //! **Cost.** Feeding and taking `n` bytes takes time in proportion to `n`, whatever the pieces and
 //! whenever frames are taken: a byte is copied once when it is fed, and over all calls no more bytes
 //! are moved than were taken. Taking allocates nothing and copies nothing. What a large frame took is
-//! given back once all was taken: a framer in which nothing is left keeps at most 256 bytes.
+//! given back once all was taken: a framer in which nothing is left keeps at most 256 bytes. Whoever feeds many framers may lend each a buffer for as long
+//! as it holds bytes ([`Framer::lend`], [`Framer::give_back`]).
 //!
 //! **How it is built.** A buffer, and how much of it was taken: [`Framer::take`] moves that mark
 //! alone, and [`Framer::feed`] moves what is left to the front once it is at most half of the
@@ -39,7 +40,7 @@ pub use encode::{HEADER_LEN, frame_of, header};
 pub use fault::FrameFault;
 pub use frame::Frame;
 pub use framer::Framer;
-pub use idle::shrink_empty;
+pub use idle::{return_room, shrink_empty};
 pub use laws::{
     any_pieces, bad_length, every_stream, first_messages, none_left, one_split, request_limit,
 };
