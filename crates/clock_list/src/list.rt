@@ -18,7 +18,8 @@ use crate::row::{
 };
 use actor_epoch::{Actor, Context};
 use clock_store::{
-    ClockStore, Found, KeyRef, Place as KeyPlace, Reaped, StoredClock, WriteKind, stored_in,
+    ClockStore, Found, FoundKey, KeyRef, Place as KeyPlace, Reaped, StoredClock, WriteKind,
+    stored_in,
 };
 use dvv_set::Clock;
 use riak_msgs::{Content, Key};
@@ -139,10 +140,10 @@ impl ClockStore for ClockList {
         }
     }
 
-    fn next(&self, after: Option<KeyRef<'_>>) -> Option<(KeyRef<'_>, &StoredClock)> {
+    fn next(&self, after: Option<KeyRef<'_>>) -> Option<(FoundKey<'_>, &StoredClock)> {
         match next_row(self.rows.as_slice(), after) {
             None => None,
-            Some(row) => Some((KeyRef::of(&row.key), &row.stored)),
+            Some(row) => Some((FoundKey::of(&row.key), &row.stored)),
         }
     }
 

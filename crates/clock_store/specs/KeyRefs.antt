@@ -1,5 +1,8 @@
 -- Keys that are borrowed part by part.
-use Rattle.std.specs.Prelude.{Option}
+use Rattle.std.specs.Prelude.{Option, List, ℕ}
+use Rattle.clock_store.specs.declared.key_ref.FoundKey.{FoundKey}
+use Rattle.clock_store.specs.declared.name.Name.{Name}
+use Rattle.clock_store.specs.declared.name.Name.TheVariants.{Short, Bytes}
 use Rattle.std.specs.Option.{option_map}
 use Rattle.riak_msgs.specs.declared.key.Key.{Key}
 use Rattle.clock_store.specs.declared.key_ref.KeyRef.{KeyRef}
@@ -11,3 +14,12 @@ key_in key = record { bucket_type = key.bucket_type.now; bucket = key.bucket.now
 -- the one that is given, or none
 abbrev pub key_after : Option KeyRef → Option Key
 key_after after = option_map key_in after
+
+-- the bytes of a name
+abbrev pub name_of : Name → List ℕ
+name_of (Short name) = name
+name_of (Bytes name) = name.now
+
+-- the key that is found
+abbrev pub key_found : FoundKey → Key
+key_found key = record { bucket_type = key.bucket_type.now; bucket = name_of key.bucket; key = name_of key.key }

@@ -5,7 +5,7 @@
 //! map.insert(alloc, &k, 7)?;            b/k has the place 7
 //! map.insert(alloc, &j, 8)?;            b/j has the place 8; the name of the bucket b is not copied again
 //! map.get(&k)                           Some(7)
-//! map.next(None)                        b/j and 8, by references to the three parts of the key
+//! map.next(None)                        b/j and 8, the names of b/j as they are stored
 //! map.remove(&k)                        Some(7): b/k has no place, b/j has 8
 //! ```
 //!
@@ -13,10 +13,13 @@
 //! keys in the order of [`Key`](riak_msgs::Key), each with its place (`AssocList`): they say what is found of each key, and
 //! that the keys ascend.
 //!
-//! Cost: a call is one search among the bucket types, one among the buckets of that type, and one among the keys of that
-//! bucket, in each of which only the names of that level are compared. An `insert` of a new key is one search more, in the
+//! Names of up to 15 bytes stand as two numbers ([`ShortName`](names::ShortName)), by which a search compares them, and longer ones as
+//! byte strings: buckets and keys have a map for each kind. Both are one in clauses, in the order of bytes.
+//!
+//! Cost: a call is one search among the bucket types, one among the buckets of that type with names of that kind, and one among such keys
+//! of that bucket, in each of which only the names of that level are compared. An `insert` of a new key is one search more, in the
 //! level that gets a new entry; a `remove` that leaves a bucket or a bucket type without keys is one search more for each. A
-//! `next` is a search in each level, and one more in each that has no key behind.
+//! `next` is a search in each level, and one more in each that has no key behind, of buckets and keys in both maps.
 //!
 //! Memory: the name of a bucket is held once, whatever the number of its keys, and a key takes its own bytes and its place
 //! alone. A bucket has a tree of its own, of one node or more, and so has a bucket type: many buckets of one key each take
@@ -29,14 +32,16 @@ ghost use Rattle.riak_msgs.specs.declared.key.Key.{Key};
 ghost use Rattle.riak_msgs.specs.KeyOrder.{key_cmp};
 ghost use Rattle.clock_store.specs.AssocList.{get, IsOrdered};
 ghost use Rattle.clock_store.specs.Behind.{next_entry};
-ghost use Rattle.clock_store.specs.KeyRefs.{key_in, key_after};
+ghost use Rattle.clock_store.specs.KeyRefs.{key_found, key_after};
 ghost use Rattle.clock_store.specs.Nested.{bytes_cmp, bucket_key_cmp, bucket_entries, key_of, next_inside, first_behind, AreTypes};
 
 mod behind;
 mod buckets;
 mod keys;
+mod long_buckets;
+mod short_buckets;
 
-use crate::key_ref::KeyRef;
+use crate::key_ref::{FoundKey, KeyRef};
 use behind::next_entry;
 use buckets::BucketPlaces;
 use riak_msgs::{BucketType, Key};
@@ -76,8 +81,8 @@ impl Model for PlaceMap {
 fn next_in_type<'a>(
     types: &'a BTreeMap<BucketType, BucketPlaces>,
     after: KeyRef<'_>,
-) -> Option<(KeyRef<'a>, usize)>
-    ensures { option_map (λ entry. (key_in entry.0, entry.1)) result
+) -> Option<(FoundKey<'a>, usize)>
+    ensures { option_map (λ entry. (key_found entry.0, entry.1)) result
         ≡ next_inside bucket_entries key_of bytes_cmp bucket_key_cmp after.entry.bucket_type.now
         (after.entry.bucket.now, after.entry.key.now) types.now.entries }
 {
@@ -86,7 +91,7 @@ fn next_in_type<'a>(
         Some((bucket_type, buckets)) => match buckets.next(Some((after.bucket, after.key))) {
             None => None,
             Some((bucket, key, place)) => {
-                let key = KeyRef {
+                let key = FoundKey {
                     bucket_type,
                     bucket,
                     key,
@@ -101,9 +106,9 @@ fn next_in_type<'a>(
 fn first_behind<'a>(
     types: &'a BTreeMap<BucketType, BucketPlaces>,
     after: Option<&BucketType>,
-) -> Option<(KeyRef<'a>, usize)>
+) -> Option<(FoundKey<'a>, usize)>
     requires { AreTypes types.now }
-    ensures { option_map (λ entry. (key_in entry.0, entry.1)) result
+    ensures { option_map (λ entry. (key_found entry.0, entry.1)) result
         ≡ first_behind bucket_entries key_of bytes_cmp
         (option_map (λ bucket_type. bucket_type.now) after.entry) types.now.entries }
 {
@@ -112,7 +117,7 @@ fn first_behind<'a>(
         Some((bucket_type, buckets)) => match buckets.next(None) {
             None => unreachable!(),
             Some((bucket, key, place)) => {
-                let key = KeyRef {
+                let key = FoundKey {
                     bucket_type,
                     bucket,
                     key,
@@ -145,8 +150,8 @@ impl PlaceMap {
     }
 
     /// The least key behind one, or of all where none is given, with its place. It takes no memory.
-    pub fn next(&self, after: Option<KeyRef<'_>>) -> Option<(KeyRef<'_>, usize)>
-        ensures next { option_map (λ entry. (key_in entry.0, entry.1)) result
+    pub fn next(&self, after: Option<KeyRef<'_>>) -> Option<(FoundKey<'_>, usize)>
+        ensures next { option_map (λ entry. (key_found entry.0, entry.1)) result
             ≡ next_entry key_cmp (key_after after.entry) self.now.entries }
         ensures ordered { IsOrdered key_cmp self.now }
     {
@@ -160,7 +165,8 @@ impl PlaceMap {
     }
 
     /// Gives a key a place, which replaces the one that it has. The key's bytes are copied, its bucket and its
-    /// bucket type where they are new. Refused where memory is, and then each key has the place that it had.
+    /// bucket type where they are new. Refused where memory is, and where the place is no number of 32 bits; then each key has the place
+    /// that it had.
     pub fn insert(&mut self, alloc: Global, key: &Key, place: usize) -> Result<(), AllocError>
         ensures inserted { OnOk result ((other : Key) → get key_cmp self.new other
             ≡ (if is_at (key_cmp key.now) other then Some place else get key_cmp self.old other)) }

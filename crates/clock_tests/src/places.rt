@@ -1,6 +1,6 @@
 //! Places of keys in more than one bucket type and bucket, each call tried again where memory is refused.
 
-use clock_store::{KeyRef, PlaceMap};
+use clock_store::{FoundKey, KeyRef, PlaceMap};
 use riak_msgs::{BucketType, Bytes, Key};
 use std::alloc::{AllocError, Global};
 
@@ -9,6 +9,12 @@ const LONG: &[u8] = b"a name of more than sixteen bytes";
 
 /// Another, whose first bytes are those of [`LONG`].
 const LONGER: &[u8] = b"a name of more than sixteen bytes, and longer";
+
+/// The first 15 bytes of [`LONG`].
+const FIFTEEN: &[u8] = b"a name of more ";
+
+/// The first 16.
+const SIXTEEN: &[u8] = b"a name of more t";
 
 /// The names of a key.
 struct Names {
@@ -52,6 +58,37 @@ const LONGER_KEY: &Names = &Names {
     bucket_type: LONG,
     bucket: LONGER,
     key: LONGER,
+};
+
+// Keys whose names are as long as a name of two numbers, longer by one byte, and longer by a zero byte than that of another key.
+const KEY_OF_15: &Names = &Names {
+    bucket_type: b"default",
+    bucket: b"b",
+    key: FIFTEEN,
+};
+
+const KEY_OF_16: &Names = &Names {
+    bucket_type: b"default",
+    bucket: b"b",
+    key: SIXTEEN,
+};
+
+const KEY_WITH_ZERO: &Names = &Names {
+    bucket_type: b"default",
+    bucket: b"b",
+    key: b"k\0",
+};
+
+const BUCKET_OF_15: &Names = &Names {
+    bucket_type: b"default",
+    bucket: FIFTEEN,
+    key: b"k",
+};
+
+const BUCKET_OF_16: &Names = &Names {
+    bucket_type: b"default",
+    bucket: SIXTEEN,
+    key: b"k",
 };
 
 /// The keys that the tests insert, in the order of [`Places`].
@@ -192,6 +229,37 @@ const ROWS: &[Row] = &[
         ],
     },
     Row {
+        shows: "names are told apart at 15 bytes, at 16, and at a zero byte behind one",
+        first: &[
+            Insert(KEY_WITH_ZERO, 7),
+            Insert(BUCKET_OF_16, 2),
+            Insert(KEY_OF_16, 4),
+            Insert(SHORT, 6),
+            Insert(BUCKET_OF_15, 1),
+            Insert(LONG_KEY, 5),
+            Insert(KEY_OF_15, 3),
+        ],
+        then: &[
+            Get(KEY_OF_15, Some(3)),
+            Get(KEY_OF_16, Some(4)),
+            Get(SHORT, Some(6)),
+            Get(KEY_WITH_ZERO, Some(7)),
+            Next(None, Some((BUCKET_OF_15, 1))),
+            Next(Some(BUCKET_OF_15), Some((BUCKET_OF_16, 2))),
+            Next(Some(BUCKET_OF_16), Some((KEY_OF_15, 3))),
+            Next(Some(KEY_OF_15), Some((KEY_OF_16, 4))),
+            Next(Some(KEY_OF_16), Some((LONG_KEY, 5))),
+            Next(Some(LONG_KEY), Some((SHORT, 6))),
+            Next(Some(SHORT), Some((KEY_WITH_ZERO, 7))),
+            Next(Some(KEY_WITH_ZERO), None),
+            Remove(KEY_OF_15, Some(3)),
+            Remove(BUCKET_OF_15, Some(1)),
+            Get(KEY_OF_16, Some(4)),
+            Next(Some(KEY_OF_15), Some((KEY_OF_16, 4))),
+            Next(Some(BUCKET_OF_15), Some((BUCKET_OF_16, 2))),
+        ],
+    },
+    Row {
         shows: "where all keys are removed there is none",
         first: SIX,
         then: &[
@@ -293,7 +361,7 @@ fn removes(alloc: Global, map: &mut PlaceMap, names: &Names, place: Option<usize
 }
 
 /// A copy of a key.
-fn copy_of(alloc: Global, key: KeyRef<'_>) -> Result<Key, AllocError> {
+fn copy_of(alloc: Global, key: &FoundKey<'_>) -> Result<Key, AllocError> {
     match key.to_key(alloc) {
         Ok(copy) => Ok(copy),
         Err(_) => key.to_key(alloc),
@@ -301,7 +369,7 @@ fn copy_of(alloc: Global, key: KeyRef<'_>) -> Result<Key, AllocError> {
 }
 
 /// Whether a key is the one of these names.
-fn is_named(alloc: Global, key: KeyRef<'_>, names: &Names) -> bool {
+fn is_named(alloc: Global, key: &FoundKey<'_>, names: &Names) -> bool {
     match key_of(alloc, names) {
         Ok(named) => copy_of(alloc, key) == Ok(named),
         Err(_) => false,
@@ -319,7 +387,7 @@ fn is_next(
         None => wanted.is_none(),
         Some((key, place)) => match wanted {
             None => false,
-            Some((names, at)) => place == at && is_named(alloc, key, names),
+            Some((names, at)) => place == at && is_named(alloc, &key, names),
         },
     }
 }

@@ -14,7 +14,7 @@ use crate::storage::rows::Step::{self, Clear, DropRoom, HasDead, Next, Sweep, To
 use crate::storage::rows::{A, FOUR, ROWS, Row};
 use actor_epoch::{Actor, MAX_ACTORS, MAX_COUNTER};
 use clock_list::ClockList;
-use clock_store::{ClockMap, ClockStore, KeyRef, StoredClock, WriteKind, place_in};
+use clock_store::{ClockMap, ClockStore, FoundKey, KeyRef, StoredClock, WriteKind, place_in};
 use dvv_set::{Clock, Needed};
 use riak_msgs::{Content, Key};
 use std::alloc::{AllocError, Global};
@@ -135,15 +135,27 @@ fn acts<S: ClockStore>(store: &mut S, alloc: Global, key: Key, act: &Act) -> boo
 }
 
 /// Whether a key of the default type has this name, and what is stored of it so many contents.
-fn is_stored(key: KeyRef<'_>, stored: &StoredClock, name: &[u8], contents: u32) -> bool {
-    key.bucket.as_slice() == b"b".as_slice()
-        && key.key.as_slice() == name
-        && count_contents(stored) == contents
+fn is_stored(
+    alloc: Global,
+    key: &FoundKey<'_>,
+    stored: &StoredClock,
+    name: &[u8],
+    contents: u32,
+) -> bool {
+    match key.to_key(alloc) {
+        Ok(key) => {
+            key.bucket.as_slice() == b"b".as_slice()
+                && key.key.as_slice() == name
+                && count_contents(stored) == contents
+        }
+        Err(_) => false,
+    }
 }
 
 /// Whether the least key behind one is this, with so many contents.
 fn is_next<S: ClockStore>(
     store: &S,
+    alloc: Global,
     after: Option<KeyRef<'_>>,
     wanted: Option<(&[u8], u32)>,
 ) -> bool {
@@ -151,7 +163,7 @@ fn is_next<S: ClockStore>(
         None => wanted.is_none(),
         Some((key, stored)) => match wanted {
             None => false,
-            Some((name, contents)) => is_stored(key, stored, name, contents),
+            Some((name, contents)) => is_stored(alloc, &key, stored, name, contents),
         },
     }
 }
@@ -164,10 +176,10 @@ fn is_next_of<S: ClockStore>(
     wanted: Option<(&[u8], u32)>,
 ) -> bool {
     let Some(name) = after else {
-        return is_next(store, None, wanted);
+        return is_next(store, alloc, None, wanted);
     };
     match key_of(alloc, name) {
-        Ok(key) => is_next(store, Some(KeyRef::of(&key)), wanted),
+        Ok(key) => is_next(store, alloc, Some(KeyRef::of(&key)), wanted),
         Err(_) => false,
     }
 }

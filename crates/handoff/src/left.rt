@@ -1,12 +1,11 @@
 //! The keys of a fallback that aren't copied as they are now.
 ghost use Rattle.std.specs.Prelude.{◌≡◌, IfOk, IfNone, IfSome, None};
 ghost use Rattle.std.specs.Option.{option_map};
-ghost use Rattle.clock_store.specs.KeyRefs.{key_after};
 ghost use Rattle.clock_store.specs.Keys.{stored_of};
 ghost use Rattle.vnode_machine.specs.Sound.{IsSound};
 ghost use Rattle.handoff.specs.Left.{AreCopied, FindsLeft, IsNextLeft};
 
-use clock_store::{KeyRef, StoredClock};
+use clock_store::{StoredClock, given_parts};
 use riak_msgs::Key;
 use std::alloc::{AllocError, Global};
 use vnode_core::{Vnode, is_copied};
@@ -29,13 +28,13 @@ pub(crate) enum Found<'a> {
     Next(Left<'a>),
 }
 
-/// The parts of the key that is given, or none.
-fn refs_of(key: Option<&Key>) -> Option<KeyRef<'_>>
-    ensures { key_after result ≡ option_map (λ k. k.now) key.entry }
+/// A copy of the key that is given, or none. Refused where memory is.
+fn copy_of(alloc: Global, key: Option<&Key>) -> Result<Option<Key>, AllocError>
+    ensures { IfOk result (λ copy. copy ≡ option_map (λ k. k.now) key.entry) }
 {
     match key {
-        None => None,
-        Some(key) => Some(KeyRef::of(key)),
+        None => Ok(None),
+        Some(key) => Ok(Some(key.clone(alloc)?)),
     }
 }
 
@@ -53,9 +52,9 @@ pub(crate) fn next_left<'a>(
         (option_map (λ k. k.now) after.entry)) }
 {
     let mut looked: u32 = 0;
-    let mut at = refs_of(after);
+    let mut at = copy_of(alloc, after)?;
     loop {
-        let Some((parts, stored)) = fallback.next_key(at) else {
+        let Some((parts, stored)) = fallback.next_key(given_parts(at.as_ref())) else {
             return Ok(Found::End);
         };
         let key = parts.to_key(alloc)?;
@@ -66,7 +65,7 @@ pub(crate) fn next_left<'a>(
             return Ok(Found::Passed(key));
         }
         looked += 1;
-        at = Some(parts);
+        at = Some(key);
     }
 }
 

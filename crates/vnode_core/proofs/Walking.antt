@@ -8,8 +8,8 @@ use Rattle.riak_msgs.specs.declared.Key.{Key}
 use Rattle.riak_msgs.specs.Contents.{Content}
 use Rattle.riak_msgs.specs.KeyOrder.{key_cmp}
 use Rattle.clock_store.specs.Behind.{is_behind, entries_behind, next_entry}
-use Rattle.clock_store.specs.KeyRefs.{key_in}
-use Rattle.clock_store.specs.declared.key_ref.KeyRef.{KeyRef}
+use Rattle.clock_store.specs.KeyRefs.{key_found}
+use Rattle.clock_store.specs.declared.key_ref.FoundKey.{FoundKey}
 use Rattle.clock_store.specs.Keys.{stored_of}
 use Rattle.clock_store.specs.declared.stored_clock.StoredClock.{StoredClock}
 use Rattle.vnode_machine.specs.Machine.{State, Stored}
@@ -53,7 +53,7 @@ next-clock state is after key s h =
     form.clock
 
 -- as a caller is lent it
-pub next-lent : (state : State Content) → IsSound state → (after : Option Key) (lent : Option (KeyRef × Bor StoredClock))
-    → option_map (λ entry. (key_in entry.0, stored_of entry.1.now)) lent ≡ next_entry key_cmp after state.keys → IfSome lent (λ entry. IsStoredClock entry.1.now.clock.meaning)
+pub next-lent : (state : State Content) → IsSound state → (after : Option Key) (lent : Option (FoundKey × Bor StoredClock))
+    → option_map (λ entry. (key_found entry.0, stored_of entry.1.now)) lent ≡ next_entry key_cmp after state.keys → IfSome lent (λ entry. IsStoredClock entry.1.now.clock.meaning)
 next-lent state is after None h = tt
-next-lent state is after (Some entry) h = next-clock state is after (key_in entry.0) (stored_of entry.1.now) (sym h)
+next-lent state is after (Some entry) h = next-clock state is after (key_found entry.0) (stored_of entry.1.now) (sym h)

@@ -6,7 +6,7 @@ ghost use Rattle.vnode_machine.specs.Sound.{IsSound};
 ghost use Rattle.vnode_core.specs.Left.{count_left, is_copied, one_unless};
 
 use crate::vnode::Vnode;
-use clock_store::StoredClock;
+use clock_store::{StoredClock, given_parts};
 use dvv_set::Clock;
 use riak_msgs::{Content, Key};
 use std::alloc::{AllocError, Global};
@@ -43,13 +43,13 @@ pub fn count_left(alloc: Global, primary: &Vnode, fallback: &Vnode) -> Result<u6
         ≡ min (count_left primary.now.state fallback.now.state.keys) (2 ^ 64 - 1)) }
 {
     let mut count: u64 = 0;
-    let mut at = None;
+    let mut at: Option<Key> = None;
     loop {
-        let Some((parts, stored)) = fallback.next_key(at) else {
+        let Some((parts, stored)) = fallback.next_key(given_parts(at.as_ref())) else {
             return Ok(count);
         };
         let key = parts.to_key(alloc)?;
         count = add_left(count, is_copied(primary, &key, stored));
-        at = Some(parts);
+        at = Some(key);
     }
 }

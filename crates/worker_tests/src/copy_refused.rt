@@ -1,4 +1,4 @@
-//! Calls of a hand-off for which memory may be refused once, as `scripts/refuse-memory` does at each of their allocations: nothing is lost,
+//! Calls of a hand-off for which memory may be refused once, as `scripts/maintain/refuse-memory` does at each of their allocations: nothing is lost,
 //! and made again they come to what they would have.
 use crate::diversions::divert;
 use crate::exchanges::{GET_BOTH, NOTHING_COUNTED, new_shared};

@@ -131,8 +131,7 @@ const SESSIONS: &[Sessions] = &[
         calls: 12_345,
     },
     Sessions {
-        // What a session counted goes into its share at the end, gets first, up to the quantity that has no room.
-        shows: "a full book changes no reply",
+        shows: "a full book changes no reply, and what it has room for is counted",
         budget: 0,
         sessions: &[Session {
             gets_before: LAST,
@@ -141,6 +140,7 @@ const SESSIONS: &[Sessions] = &[
             is_book_full: true,
             totals: Totals {
                 gets: LAST,
+                puts: 1,
                 ..NOTHING_COUNTED
             },
             ..NEW_SESSION

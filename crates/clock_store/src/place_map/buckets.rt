@@ -2,81 +2,96 @@
 
 ghost use Rattle.std.specs.Prelude.{◌≡◌, [], ◌∷◌, IfOk, OnOk, OnErr, Some, None, IsTrue, ◌↔◌, if◌then◌else◌};
 ghost use Rattle.std.specs.BTreeMap.{is_at};
-ghost use Rattle.std.specs.Option.{option_map};
 ghost use Rattle.clock_store.specs.AssocList.{get, IsOrdered};
+ghost use Rattle.std.specs.Option.{option_map};
 ghost use Rattle.clock_store.specs.Behind.{next_entry};
-ghost use Rattle.clock_store.specs.Nested.{BucketKey, bucket_key, bytes_cmp, bucket_key_cmp, key_entries, next_inside, first_behind, AreBuckets};
+ghost use Rattle.clock_store.specs.KeyRefs.{name_of};
+ghost use Rattle.clock_store.specs.Nested.{BucketKey, bucket_key_cmp, AreInShort};
 
-use crate::place_map::behind::next_entry;
-use crate::place_map::keys;
+use crate::name::Name;
+use crate::place_map::long_buckets::LongBuckets;
+use crate::place_map::short_buckets::ShortBuckets;
+use names::ShortName;
 use riak_msgs::Bytes;
 use std::alloc::{AllocError, Global};
-use std::collections::BTreeMap;
 use std::marker::Model;
 
-/// Buckets in their order, each with its keys in theirs, and each key with its place. No bucket is without keys.
+/// Buckets in their order, each with its keys in theirs, and each key with its place: those with names of up to 15 bytes, and those
+/// with longer ones. No bucket is without keys.
 ///
 /// Contracts see the list of all keys, each with its bucket and its place.
 pub(crate) struct BucketPlaces {
-    buckets: BTreeMap<Bytes, BTreeMap<Bytes, usize>>,
+    short: ShortBuckets,
+    long: LongBuckets,
 }
 
 /// One call at each place where one is let go.
 impl Drop for BucketPlaces {
     fn drop(self) {
-        let BucketPlaces { buckets: _buckets } = self;
+        let BucketPlaces {
+            short: _short,
+            long: _long,
+        } = self;
     }
 }
 
 impl Model for BucketPlaces {
-    ghost use Rattle.clock_store.specs.Nested.{BucketKeyPlaces, bucket_places, AreBuckets};
+    ghost use Rattle.clock_store.specs.Nested.{BucketKeyPlaces, all_buckets, AreAllBuckets};
 
     ghost Value = { BucketKeyPlaces };
 
-    ghost view = { λ b. bucket_places b.buckets };
+    ghost view = { λ b. all_buckets b.short b.long };
 
-    ghost invariant = { λ b. AreBuckets b.buckets };
+    ghost invariant = { λ b. AreAllBuckets b.short b.long };
 }
 
-/// The least key behind one in its own bucket, with its bucket and its place.
-fn next_in_bucket<'a>(
-    buckets: &'a BTreeMap<Bytes, BTreeMap<Bytes, usize>>,
-    bucket: &Bytes,
-    key: &Bytes,
-) -> Option<(&'a Bytes, &'a Bytes, usize)>
-    ensures { option_map (λ entry. ((entry.0.now, entry.1.now), entry.2)) result
-        ≡ next_inside key_entries bucket_key bytes_cmp bytes_cmp bucket.now key.now
-        buckets.now.entries }
+/// The least key behind one, or of all where none is given, of the buckets with names of up to 15 bytes.
+fn next_in_short<'a>(
+    short: &'a ShortBuckets,
+    after: Option<(&Bytes, &Bytes)>,
+) -> Option<(ShortName, Name<'a>, usize)>
+    requires { AreInShort short.now.entries }
+    ensures { option_map (λ e. ((e.0, name_of e.1), e.2)) result
+        ≡ next_entry bucket_key_cmp (option_map (λ key. (key.0.now, key.1.now)) after.entry)
+        short.now.entries }
 {
-    match buckets.get_key_value(bucket) {
-        None => None,
-        Some((bucket, keys)) => match next_entry(keys, Some(key)) {
-            None => None,
-            Some((key, place)) => Some((bucket, key, *place)),
-        },
-    }
-}
-
-/// The least key of the buckets behind one, or of all where none is given, with its bucket and its place.
-fn first_behind<'a>(
-    buckets: &'a BTreeMap<Bytes, BTreeMap<Bytes, usize>>,
-    after: Option<&Bytes>,
-) -> Option<(&'a Bytes, &'a Bytes, usize)>
-    requires { AreBuckets buckets.now }
-    ensures { option_map (λ entry. ((entry.0.now, entry.1.now), entry.2)) result
-        ≡ first_behind key_entries bucket_key bytes_cmp
-        (option_map (λ bucket. bucket.now) after.entry) buckets.now.entries }
-{
-    match next_entry(buckets, after) {
-        None => None,
-        Some((bucket, keys)) => match next_entry(keys, None) {
-            None => unreachable!(),
-            Some((key, place)) => Some((bucket, key, *place)),
-        },
+    let Some((bucket, key)) = after else {
+        return short.next(None);
+    };
+    match ShortName::of(bucket.as_slice()) {
+        Some(name) => short.next(Some((&name, key))),
+        None => short.first_of_behind(&ShortName::prefix_of(bucket.as_slice())),
     }
 }
 
 impl BucketPlaces {
+    /// The least key behind one, or of all where none is given, with its bucket and its place.
+    pub(crate) fn next(
+        &self,
+        after: Option<(&Bytes, &Bytes)>,
+    ) -> Option<(Name<'_>, Name<'_>, usize)>
+        ensures { option_map (λ e. ((name_of e.0, name_of e.1), e.2)) result
+            ≡ next_entry bucket_key_cmp (option_map (λ key. (key.0.now, key.1.now)) after.entry)
+            self.now.entries }
+    {
+        let long = self.long.next(after);
+        match next_in_short(&self.short, after) {
+            None => match long {
+                None => None,
+                Some((bucket, key, place)) => Some((Name::Bytes(bucket), key, place)),
+            },
+            Some(found) => match long {
+                None => Some((Name::Short(found.0), found.1, found.2)),
+                Some((bucket, other, there)) => {
+                    if found.0.is_above(bucket.as_slice()) {
+                        return Some((Name::Bytes(bucket), other, there));
+                    }
+                    Some((Name::Short(found.0), found.1, found.2))
+                }
+            },
+        }
+    }
+
     /// One key with its place. Refused where memory is.
     pub(crate) fn one_key(
         alloc: Global,
@@ -86,38 +101,29 @@ impl BucketPlaces {
     ) -> Result<BucketPlaces, AllocError>
         ensures { IfOk result (λ places. places.entries ≡ ((bucket.now, key.now), place) ∷ []) }
     {
-        let keys = keys::one_key(alloc, key, place)?;
-        let own = bucket.clone(alloc)?;
-        let mut buckets = BTreeMap::new(alloc);
-        match buckets.insert(own, keys) {
-            Ok(_) => Ok(BucketPlaces { buckets }),
-            Err(_) => Err(AllocError),
+        match ShortName::of(bucket.as_slice()) {
+            Some(name) => {
+                let short = ShortBuckets::one_key(alloc, &name, key, place)?;
+                let long = LongBuckets::new(alloc);
+                Ok(BucketPlaces { short, long })
+            }
+            None => {
+                let long = LongBuckets::one_key(alloc, bucket, key, place)?;
+                let short = ShortBuckets::new(alloc);
+                Ok(BucketPlaces { short, long })
+            }
         }
     }
 
     /// The place of a key, if it has one.
+    #[inline(always)]
     pub(crate) fn get(&self, bucket: &Bytes, key: &Bytes) -> Option<usize>
         ensures place { result ≡ get bucket_key_cmp self.now (bucket.now, key.now) }
         ensures ordered { IsOrdered bucket_key_cmp self.now }
     {
-        match self.buckets.get(bucket) {
-            Some(keys) => keys.get(key).copied(),
-            None => None,
-        }
-    }
-
-    /// The least key behind one, or of all where none is given, with its bucket and its place.
-    pub(crate) fn next(&self, after: Option<(&Bytes, &Bytes)>) -> Option<(&Bytes, &Bytes, usize)>
-        ensures { option_map (λ entry. ((entry.0.now, entry.1.now), entry.2)) result
-            ≡ next_entry bucket_key_cmp (option_map (λ key. (key.0.now, key.1.now)) after.entry)
-            self.now.entries }
-    {
-        let Some((bucket, key)) = after else {
-            return first_behind(&self.buckets, None);
-        };
-        match next_in_bucket(&self.buckets, bucket, key) {
-            None => first_behind(&self.buckets, Some(bucket)),
-            Some(found) => Some(found),
+        match ShortName::of(bucket.as_slice()) {
+            Some(name) => self.short.get(&name, key),
+            None => self.long.get(bucket, key),
         }
     }
 
@@ -125,7 +131,7 @@ impl BucketPlaces {
     pub(crate) fn is_empty(&self) -> bool
         ensures { IsTrue result ↔ (self.now.entries ≡ []) }
     {
-        self.buckets.is_empty()
+        self.short.is_empty() && self.long.is_empty()
     }
 
     /// Gives a key a place, which replaces the one that it has. Refused where memory is, and then nothing changes.
@@ -142,15 +148,9 @@ impl BucketPlaces {
         ensures refused { OnErr result (self.new.entries ≡ self.old.entries) }
         ensures ordered { IsOrdered bucket_key_cmp self.new }
     {
-        match self.buckets.get_mut(bucket) {
-            Some(keys) => return keys::insert_key(keys, alloc, key, place),
-            None => {}
-        }
-        let keys = keys::one_key(alloc, key, place)?;
-        let own = bucket.clone(alloc)?;
-        match self.buckets.insert(own, keys) {
-            Ok(_) => Ok(()),
-            Err(_) => Err(AllocError),
+        match ShortName::of(bucket.as_slice()) {
+            Some(name) => self.short.insert(alloc, &name, key, place),
+            None => self.long.insert(alloc, bucket, key, place),
         }
     }
 
@@ -162,16 +162,9 @@ impl BucketPlaces {
             else get bucket_key_cmp self.old other) }
         ensures ordered { IsOrdered bucket_key_cmp self.new }
     {
-        match self.buckets.get_mut(bucket) {
-            None => None,
-            Some(keys) => {
-                let place = keys.remove(key);
-                let is_empty = keys.is_empty();
-                if is_empty {
-                    drop(self.buckets.remove(bucket));
-                }
-                place
-            }
+        match ShortName::of(bucket.as_slice()) {
+            Some(name) => self.short.remove(&name, key),
+            None => self.long.remove(bucket, key),
         }
     }
 }

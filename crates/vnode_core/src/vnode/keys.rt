@@ -4,7 +4,7 @@ ghost use Rattle.std.specs.Prelude.{◌≡◌, [], None, IfSome};
 ghost use Rattle.std.specs.Option.{option_map};
 ghost use Rattle.riak_msgs.specs.KeyOrder.{key_cmp};
 ghost use Rattle.clock_store.specs.Behind.{next_entry};
-ghost use Rattle.clock_store.specs.KeyRefs.{key_in, key_after};
+ghost use Rattle.clock_store.specs.KeyRefs.{key_found, key_after};
 ghost use Rattle.clock_store.specs.Keys.{stored_of};
 ghost use Rattle.vnode_machine.specs.Copying.{IsStoredClock};
 ghost use Rattle.vnode_machine.specs.Machine.{opening, stored};
@@ -14,7 +14,7 @@ ghost use Rattle.vnode_core.specs.Checks.{last_dot};
 use crate::checks::last_of;
 use crate::vnode::VnodeOver;
 use actor_epoch::{Dot, EpochSource};
-use clock_store::{ClockStore, KeyRef, StoredClock};
+use clock_store::{ClockStore, FoundKey, KeyRef, StoredClock};
 use dvv_set::Clock;
 use ghost_state::GhostValue;
 use riak_msgs::{Content, Key};
@@ -57,8 +57,8 @@ impl<S: ClockStore> VnodeOver<S> {
 
     /// The least key behind one, or of all where none is given, present or dead, with its actor and its clock. The key is lent part by
     /// part, since no whole key is stored. It takes no memory.
-    pub fn next_key(&self, after: Option<KeyRef<'_>>) -> Option<(KeyRef<'_>, &StoredClock)>
-        ensures next { option_map (λ entry. (key_in entry.0, stored_of entry.1.now)) result
+    pub fn next_key(&self, after: Option<KeyRef<'_>>) -> Option<(FoundKey<'_>, &StoredClock)>
+        ensures next { option_map (λ entry. (key_found entry.0, stored_of entry.1.now)) result
             ≡ next_entry key_cmp (key_after after.entry) self.now.state.keys }
         ensures form { IfSome result (λ entry. IsStoredClock entry.1.now.clock.meaning) }
     {

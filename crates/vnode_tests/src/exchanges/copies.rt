@@ -7,9 +7,10 @@ use crate::exchanges::steps::{
     Tombstone, V, Value,
 };
 use actor_epoch::Dot;
-use clock_store::KeyRef;
+use clock_store::{KeyRef, given_parts};
 use ghost_state::GhostList;
-use std::alloc::Global;
+use riak_msgs::Key;
+use std::alloc::{AllocError, Global};
 use vnode_core::{Answer, Ask as VnodeAsk, KeyCopy, Plan, Reaped, Refusal, Vnode};
 
 /// The id of the fallback: 00 00 00 00 00 01 80 00.
@@ -278,24 +279,32 @@ const ROWS: &[Row] = &[
 fn copy_of(fallback: &Vnode, alloc: Global, which: Which) -> Result<Option<KeyCopy>, Refusal> {
     let before = match which {
         First => None,
-        Second => first_key(fallback),
+        Second => first_key(fallback, alloc)?,
     };
-    match fallback.next_key(before) {
+    match fallback.next_key(given_parts(before.as_ref())) {
         None => Ok(None),
-        Some((key, stored)) => Ok(Some(KeyCopy::of(alloc, key, stored, 1, GhostList::new())?)),
+        Some((key, stored)) => {
+            let key = key.to_key(alloc)?;
+            let parts = KeyRef::of(&key);
+            Ok(Some(KeyCopy::of(alloc, parts, stored, 1, GhostList::new())?))
+        }
     }
 }
 
-/// The first key of a vnode.
-fn first_key(vnode: &Vnode) -> Option<KeyRef<'_>> {
-    let (key, _) = vnode.next_key(None)?;
-    Some(key)
+/// A copy of the first key of a vnode; None where it has no key.
+fn first_key(vnode: &Vnode, alloc: Global) -> Result<Option<Key>, AllocError> {
+    match vnode.next_key(None) {
+        None => Ok(None),
+        Some((key, _)) => Ok(Some(key.to_key(alloc)?)),
+    }
 }
 
 /// How many siblings its first key has.
 fn first_siblings(vnode: &Vnode) -> Option<u128> {
-    let (_, stored) = vnode.next_key(None)?;
-    Some(stored.clock.uncovered(None))
+    match vnode.next_key(None) {
+        None => None,
+        Some((_, stored)) => Some(stored.clock.uncovered(None)),
+    }
 }
 
 /// What an answer says, which goes then.

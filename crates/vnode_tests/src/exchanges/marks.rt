@@ -1,4 +1,4 @@
-//! Changes made between two marks, for `scripts/count-allocations`: each mark is an allocation of a size that no other here
+//! Changes made between two marks, for `scripts/maintain/count-allocations`: each mark is an allocation of a size that no other here
 //! has, and the script sees that between the two of a test there is none.
 
 use crate::exchanges::asking::{ask_of, taken};

@@ -1,22 +1,26 @@
-use Rattle.std.proofs.Common.{◌∙◌, sym, ap}
-use Rattle.std.specs.Option.{option_copied}
-use Rattle.std.specs.Prelude.{Some, None}
-use Rattle.clock_store.proofs.Nested.{buckets_order, found_in, nested_sorted}
+use Rattle.std.proofs.Common.{◌∙◌, sym, ap, ℕ, List}
+use Rattle.std.specs.BTreeMap.{is_at}
+use Rattle.std.specs.Map.{lookup}
+use Rattle.names.proofs.Merged.{found_first, found_second, merged_sorted}
+use Rattle.clock_store.specs.Nested.{bucket_key_cmp}
+use Rattle.clock_store.proofs.Nested.{types_order}
+use Rattle.clock_store.proofs.MergedPlaces.{of_some, of_none, in_short, same_bucket}
 use Rattle.clock_store.proofs.place_map.buckets.BucketPlaces.get.Goals as goal
 
 pub returns-in-Some-clause-place : goal.returns-in-Some-clause-place
 returns-in-Some-clause-place c =
+    let name = of_some c.of.result c.as_slice.result.now c.args.bucket.now c.in-Some.name c.of.ensures c.as_slice.ensures c.in-Some.is in
     rw (← c.self.view_is)
-    (c.copied.ensures ∙ c.get-in-Some.ensures.value
-    ∙ sym (found_in buckets_order c.args.bucket.now c.args.key.now c.self.inside.buckets.entries c.self.invariant (Some c.in-Some.keys.now) (sym c.get.ensures.value ∙ ap option_copied c.in-Some.is)))
+    (c.get.ensures.place ∙ ap (λ (n : List ℕ). lookup (is_at (bucket_key_cmp (n, c.args.key.now))) c.self.inside.short.entries) name.1
+    ∙ sym (found_first types_order.inner_total in_short same_bucket c.self.inside.short.entries c.self.inside.long.entries c.self.invariant (c.args.bucket.now, c.args.key.now) name.0))
 
 pub returns-in-Some-clause-ordered : goal.returns-in-Some-clause-ordered
-returns-in-Some-clause-ordered c = rw (← c.self.view_is) (nested_sorted buckets_order c.self.inside.buckets.entries c.self.invariant)
+returns-in-Some-clause-ordered c = rw (← c.self.view_is) (merged_sorted types_order.inner_total c.self.inside.short.entries c.self.inside.long.entries c.self.invariant.first_ordered)
 
 pub returns-in-None-clause-place : goal.returns-in-None-clause-place
 returns-in-None-clause-place c =
     rw (← c.self.view_is)
-    (sym (found_in buckets_order c.args.bucket.now c.args.key.now c.self.inside.buckets.entries c.self.invariant None (sym c.get.ensures.value ∙ ap option_copied c.in-None.is)))
+    (c.get-in-None.ensures.place ∙ sym (found_second types_order.inner_total in_short same_bucket c.self.inside.short.entries c.self.inside.long.entries c.self.invariant (c.args.bucket.now, c.args.key.now) (of_none c.of.result c.as_slice.result.now c.args.bucket.now c.of.ensures c.as_slice.ensures c.in-None.is)))
 
 pub returns-in-None-clause-ordered : goal.returns-in-None-clause-ordered
-returns-in-None-clause-ordered c = rw (← c.self.view_is) (nested_sorted buckets_order c.self.inside.buckets.entries c.self.invariant)
+returns-in-None-clause-ordered c = rw (← c.self.view_is) (merged_sorted types_order.inner_total c.self.inside.short.entries c.self.inside.long.entries c.self.invariant.first_ordered)

@@ -1,62 +1,46 @@
-use Rattle.std.proofs.Common.{◌∙◌, sym, ap}
-use Rattle.std.specs.Option.{option_copied_mut}
+use Rattle.std.proofs.Common.{◌∙◌, ap, ℕ, List, cond}
 use Rattle.std.specs.Prelude.{Some}
-use Rattle.clock_store.proofs.Nested.{buckets_order, nested_sorted, nested_written, found_written, same_written, filled_insert, nested_added, found_added}
+use Rattle.std.specs.BTreeMap.{is_at}
+use Rattle.std.specs.Map.{lookup}
 use Rattle.std.proofs.lemmas.Result.{on_ok_weaker, on_err_weaker}
+use Rattle.names.specs.ShortNames.{is_short}
+use Rattle.names.specs.Merged.{merged}
+use Rattle.names.proofs.Merged.{set_first, set_second, merged_sorted}
+use Rattle.clock_store.specs.Nested.{bucket_key_cmp}
+use Rattle.clock_store.proofs.Nested.{types_order}
+use Rattle.clock_store.proofs.MergedPlaces.{of_some, of_none, in_short, same_bucket, first_after, second_after}
 use Rattle.clock_store.proofs.place_map.buckets.BucketPlaces.insert.Goals as goal
 
 pub invariant_of-self : goal.invariant_of-self
 invariant_of-self c =
-    let is = sym c.get_mut.ensures.value ∙ ap option_copied_mut c.in-Some.is in
-    nested_written buckets_order c.self.inside.buckets (c.get_mut.follows.lender c.insert_key.new.keys) c.args.bucket.now c.in-Some.keys.now c.insert_key.new.keys is
-    (c.get_mut.follows.holds c.insert_key.new.keys) c.self.invariant
-    (record {
-      ordered = c.insert_key.ensures.ordered;
-      filled =
-          filled_insert buckets_order c.insert_key.result c.in-Some.keys.now.entries c.insert_key.new.keys.entries c.args.key.now c.args.place c.insert_key.ensures.inserted
-          c.insert_key.ensures.refused (c.self.invariant.held c.args.bucket.now c.in-Some.keys.now is).filled;
-    })
+    let name = of_some c.of.result c.as_slice.result.now c.args.bucket.now c.in-Some.name c.of.ensures c.as_slice.ensures c.in-Some.is in
+    first_after types_order.inner_total in_short same_bucket c.insert.result c.self.inside.short.entries c.self.inside.long.entries c.insert.new.self.entries (c.in-Some.name, c.args.key.now) (Some c.args.place) c.self.invariant c.insert.ensures.ordered
+    (ap is_short name.1 ∙ name.0) c.insert.ensures.inserted c.insert.ensures.refused
+
+pub invariant_of-self-in-None : goal.invariant_of-self-in-None
+invariant_of-self-in-None c =
+    second_after types_order.inner_total in_short same_bucket c.insert-in-None.result c.self.inside.short.entries c.self.inside.long.entries c.insert-in-None.new.self.entries (c.args.bucket.now, c.args.key.now) (Some c.args.place) c.self.invariant c.insert-in-None.ensures.ordered
+    (of_none c.of.result c.as_slice.result.now c.args.bucket.now c.of.ensures c.as_slice.ensures c.in-None.is) c.insert-in-None.ensures.inserted c.insert-in-None.ensures.refused
 
 pub returns-in-Some-clause-inserted : goal.returns-in-Some-clause-inserted
 returns-in-Some-clause-inserted c =
+    let name = of_some c.of.result c.as_slice.result.now c.args.bucket.now c.in-Some.name c.of.ensures c.as_slice.ensures c.in-Some.is in
     rw (← c.self.view_is)
-    (on_ok_weaker c.insert_key.result
-    (λ changed other. found_written buckets_order c.self.inside.buckets (c.get_mut.follows.lender c.insert_key.new.keys) c.args.bucket.now c.in-Some.keys.now c.insert_key.new.keys
-    (sym c.get_mut.ensures.value ∙ ap option_copied_mut c.in-Some.is) (c.get_mut.follows.holds c.insert_key.new.keys) c.self.invariant c.args.key.now (Some c.args.place) changed other.0 other.1)
-    c.insert_key.ensures.inserted)
+    (on_ok_weaker c.insert.result (λ set. set_first types_order.inner_total in_short same_bucket c.self.inside.short.entries c.self.inside.long.entries c.insert.new.self.entries (c.args.bucket.now, c.args.key.now) (Some c.args.place) c.self.invariant c.insert.ensures.ordered name.0 (λ q. set q ∙ ap (λ (n : List ℕ). cond (is_at (bucket_key_cmp (n, c.args.key.now)) q) (Some c.args.place) (lookup (is_at (bucket_key_cmp q)) c.self.inside.short.entries)) name.1)) c.insert.ensures.inserted)
 
 pub returns-in-Some-clause-refused : goal.returns-in-Some-clause-refused
-returns-in-Some-clause-refused c =
+returns-in-Some-clause-refused c = rw (← c.self.view_is) (on_err_weaker c.insert.result (λ stays. ap (λ es. merged bucket_key_cmp es c.self.inside.long.entries) stays) c.insert.ensures.refused)
+
+pub returns-in-None-clause-inserted : goal.returns-in-None-clause-inserted
+returns-in-None-clause-inserted c =
     rw (← c.self.view_is)
-    (on_err_weaker c.insert_key.result
-    (same_written buckets_order c.self.inside.buckets (c.get_mut.follows.lender c.insert_key.new.keys) c.args.bucket.now c.in-Some.keys.now c.insert_key.new.keys
-    (sym c.get_mut.ensures.value ∙ ap option_copied_mut c.in-Some.is) (c.get_mut.follows.holds c.insert_key.new.keys))
-    c.insert_key.ensures.refused)
+    (on_ok_weaker c.insert-in-None.result (λ set. set_second types_order.inner_total in_short same_bucket c.self.inside.short.entries c.self.inside.long.entries c.insert-in-None.new.self.entries (c.args.bucket.now, c.args.key.now) (Some c.args.place) c.self.invariant c.insert-in-None.ensures.ordered (of_none c.of.result c.as_slice.result.now c.args.bucket.now c.of.ensures c.as_slice.ensures c.in-None.is) set) c.insert-in-None.ensures.inserted)
+
+pub returns-in-None-clause-refused : goal.returns-in-None-clause-refused
+returns-in-None-clause-refused c = rw (← c.self.view_is) (on_err_weaker c.insert-in-None.result (λ stays. ap (merged bucket_key_cmp c.self.inside.short.entries) stays) c.insert-in-None.ensures.refused)
 
 pub returns-in-Some-clause-ordered : goal.returns-in-Some-clause-ordered
-returns-in-Some-clause-ordered c = nested_sorted buckets_order (c.get_mut.follows.lender c.insert_key.new.keys).entries (invariant_of-self c)
+returns-in-Some-clause-ordered c = merged_sorted types_order.inner_total c.insert.new.self.entries c.self.inside.long.entries c.insert.ensures.ordered
 
-pub returns-in_err-keys-clause-ordered : goal.returns-in_err-keys-clause-ordered
-returns-in_err-keys-clause-ordered c = rw c.get_mut.follows.holds-at-none (nested_sorted buckets_order c.self.inside.buckets.entries c.self.invariant)
-
-pub returns-in_err-own-clause-ordered : goal.returns-in_err-own-clause-ordered
-returns-in_err-own-clause-ordered c = rw c.get_mut.follows.holds-at-none (nested_sorted buckets_order c.self.inside.buckets.entries c.self.invariant)
-
-pub invariant_of-self-in-Ok : goal.invariant_of-self-in-Ok
-invariant_of-self-in-Ok c =
-    nested_added buckets_order c.self.inside.buckets c.get_mut.follows.lender-at-none c.insert.new.self c.args.bucket.now c.in_ok-own.own c.in_ok-keys.keys c.args.key.now c.args.place
-    c.get_mut.follows.holds-at-none c.in_ok-own.ensures c.in_ok-keys.ensures c.in-Ok.ensures.updates c.insert.ensures.ordered c.self.invariant
-
-pub returns-in-Ok-clause-inserted : goal.returns-in-Ok-clause-inserted
-returns-in-Ok-clause-inserted c =
-    rw (← c.self.view_is)
-    (λ other. found_added buckets_order c.self.inside.buckets c.get_mut.follows.lender-at-none c.insert.new.self c.args.bucket.now c.in_ok-own.own c.in_ok-keys.keys c.args.key.now c.args.place
-    c.get_mut.follows.holds-at-none c.in_ok-own.ensures c.in_ok-keys.ensures c.in-Ok.ensures.updates c.insert.ensures.ordered c.self.invariant
-    (sym c.get_mut.ensures.value ∙ ap option_copied_mut c.in-None.is) other.0 other.1)
-
-pub returns-in-Ok-clause-ordered : goal.returns-in-Ok-clause-ordered
-returns-in-Ok-clause-ordered c = nested_sorted buckets_order c.insert.new.self.entries (invariant_of-self-in-Ok c)
-
-pub returns-clause-ordered : goal.returns-clause-ordered
-returns-clause-ordered c =
-    rw (c.in-Err.ensures.err, c.get_mut.follows.holds-at-none) (nested_sorted buckets_order c.self.inside.buckets.entries c.self.invariant)
+pub returns-in-None-clause-ordered : goal.returns-in-None-clause-ordered
+returns-in-None-clause-ordered c = merged_sorted types_order.inner_total c.self.inside.short.entries c.insert-in-None.new.self.entries c.self.invariant.first_ordered

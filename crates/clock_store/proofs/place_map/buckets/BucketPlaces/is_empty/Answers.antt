@@ -1,11 +1,20 @@
-use Rattle.std.proofs.Common.{ap, length}
-use Rattle.clock_store.specs.Nested.{flatten, key_entries, bucket_key}
-use Rattle.clock_store.proofs.Nested.{buckets_order, nested_empty, empty_by_length}
+use Rattle.names.specs.Merged.{merged}
+use Rattle.names.proofs.Merged.{merged_empty}
+use Rattle.clock_store.specs.Nested.{bucket_key_cmp}
+use Rattle.clock_store.proofs.Nested.{types_order}
+use Rattle.clock_store.proofs.MergedPlaces.{not_both}
 use Rattle.clock_store.proofs.place_map.buckets.BucketPlaces.is_empty.Goals as goal
 
-pub returns : goal.returns
-returns c =
+pub returns-then-is_empty : goal.returns-then-is_empty
+returns-then-is_empty c =
     rw (← c.self.view_is) (
-      λ yes. ap (flatten key_entries bucket_key) (empty_by_length c.self.inside.buckets.entries (c.is_empty.ensures.0 yes)),
-      λ empty. c.is_empty.ensures.1 (ap length (nested_empty buckets_order c.self.inside.buckets.entries c.self.invariant empty)),
+      λ yes. λ i. merged bucket_key_cmp ((c.is_empty.ensures.0 c.if-is_empty.true) i) ((c.is_empty-then-is_empty.ensures.0 yes) i),
+      λ empty. c.is_empty-then-is_empty.ensures.1 ((merged_empty types_order.inner_total c.self.inside.short.entries c.self.inside.long.entries empty).1),
+    )
+
+pub returns-else-is_empty : goal.returns-else-is_empty
+returns-else-is_empty c =
+    rw (← c.self.view_is) (
+      λ yes. not_both c.is_empty.result yes c.if-is_empty.false,
+      λ empty. c.is_empty.ensures.1 ((merged_empty types_order.inner_total c.self.inside.short.entries c.self.inside.long.entries empty).0),
     )

@@ -1,17 +1,35 @@
-use Rattle.std.proofs.Common.{◌∙◌, sym}
-use Rattle.clock_store.proofs.Nested.{buckets_order}
-use Rattle.clock_store.proofs.NextEntry.{next_within, next_beyond, next_flatten_all}
+use Rattle.std.proofs.Common.{refl, List, ℕ}
+use Rattle.clock_store.specs.KeyRefs.{name_of}
+use Rattle.std.specs.Option.{option_map}
+use Rattle.std.specs.Borrow.{Bor}
+use Rattle.clock_store.proofs.Nested.{types_order}
+use Rattle.clock_store.proofs.MergedPlaces.{in_short, whole_next, lower_then, lower_else}
+use Rattle.clock_store.proofs.MergedNext.{all_first}
 use Rattle.clock_store.proofs.place_map.buckets.BucketPlaces.next.Goals as goal
 
-pub returns-in_default : goal.returns-in_default
-returns-in_default c = rw (← c.self.view_is, c.in_default.is) (c.first_behind.ensures ∙ sym (next_flatten_all buckets_order c.self.inside.buckets.entries))
+pub next_in_short-requires : goal.next_in_short-requires
+next_in_short-requires c = all_first types_order.inner_total in_short c.self.inside.short.entries c.self.inside.long.entries c.self.invariant
 
-pub returns-in-None : goal.returns-in-None
-returns-in-None c =
-    rw (← c.self.view_is, c.in-Some.is)
-    (c.first_behind-in-None.ensures ∙ next_beyond buckets_order c.in-Some.bucket.now c.in-Some.key.now c.self.inside.buckets.entries c.self.invariant.ordered c.in-None.ensures)
+pub returns-in-None-long : goal.returns-in-None-long
+returns-in-None-long c =
+    rw (← c.self.view_is) (whole_next (option_map {T = Bor (List ℕ) × Bor (List ℕ)} (λ key. (key.0.now, key.1.now)) c.args.after) c.self.inside.short.entries c.self.inside.long.entries c.self.invariant c.in-None.ensures c.in-None-long.ensures refl)
 
-pub returns-in-Some-next_in_bucket : goal.returns-in-Some-next_in_bucket
-returns-in-Some-next_in_bucket c =
-    rw (← c.self.view_is, c.in-Some.is)
-    (next_within buckets_order c.in-Some.bucket.now c.in-Some.key.now c.self.inside.buckets.entries c.self.invariant.ordered _ c.in-Some-next_in_bucket.ensures)
+pub returns-in-Some-long : goal.returns-in-Some-long
+returns-in-Some-long c =
+    rw (← c.self.view_is) (whole_next (option_map {T = Bor (List ℕ) × Bor (List ℕ)} (λ key. (key.0.now, key.1.now)) c.args.after) c.self.inside.short.entries c.self.inside.long.entries c.self.invariant c.in-None.ensures c.in-Some-long.ensures refl)
+
+pub returns-in-None-long-2 : goal.returns-in-None-long-2
+returns-in-None-long-2 c =
+    rw (← c.self.view_is) (whole_next (option_map {T = Bor (List ℕ) × Bor (List ℕ)} (λ key. (key.0.now, key.1.now)) c.args.after) c.self.inside.short.entries c.self.inside.long.entries c.self.invariant c.in-Some.ensures c.in-None-long-2.ensures refl)
+
+pub returns-then-is_above : goal.returns-then-is_above
+returns-then-is_above c =
+    rw (← c.self.view_is)
+    (whole_next (option_map {T = Bor (List ℕ) × Bor (List ℕ)} (λ key. (key.0.now, key.1.now)) c.args.after) c.self.inside.short.entries c.self.inside.long.entries c.self.invariant c.in-Some.ensures c.in-Some-long-2.ensures
+    (lower_then ((c.in-Some.found.0, name_of c.in-Some.found.1), c.in-Some.found.2) ((c.in-Some-long-2.bucket.now, name_of c.in-Some-long-2.other), c.in-Some-long-2.there) c.is_above.result c.as_slice.result.now c.is_above.ensures c.as_slice.ensures c.if-is_above.true))
+
+pub returns-else-is_above : goal.returns-else-is_above
+returns-else-is_above c =
+    rw (← c.self.view_is)
+    (whole_next (option_map {T = Bor (List ℕ) × Bor (List ℕ)} (λ key. (key.0.now, key.1.now)) c.args.after) c.self.inside.short.entries c.self.inside.long.entries c.self.invariant c.in-Some.ensures c.in-Some-long-2.ensures
+    (lower_else ((c.in-Some.found.0, name_of c.in-Some.found.1), c.in-Some.found.2) ((c.in-Some-long-2.bucket.now, name_of c.in-Some-long-2.other), c.in-Some-long-2.there) c.is_above.result c.as_slice.result.now c.is_above.ensures c.as_slice.ensures c.if-is_above.false))

@@ -1,63 +1,38 @@
-use Rattle.std.proofs.Common.{◌∙◌, sym, ap, length}
-use Rattle.std.specs.Option.{option_copied_mut}
-use Rattle.std.specs.Prelude.{Some, None}
-use Rattle.clock_store.proofs.Nested.{buckets_order, found_in, nested_sorted, nested_written, found_written, nested_emptied, found_emptied, found_absent, filled_unless, empty_by_length}
+use Rattle.std.proofs.Common.{◌∙◌, sym, ap, ℕ, List, cond}
+use Rattle.std.specs.Prelude.{None}
+use Rattle.std.specs.BTreeMap.{is_at}
+use Rattle.std.specs.Map.{lookup}
+use Rattle.names.proofs.Merged.{found_first, found_second, set_first, set_second, merged_sorted}
+use Rattle.clock_store.specs.Nested.{bucket_key_cmp}
+use Rattle.clock_store.proofs.Nested.{types_order}
+use Rattle.clock_store.proofs.MergedPlaces.{of_some, of_none, in_short, same_bucket}
 use Rattle.clock_store.proofs.place_map.buckets.BucketPlaces.remove.Goals as goal
 
-pub invariant_of-self-else-is_empty : goal.invariant_of-self-else-is_empty
-invariant_of-self-else-is_empty c =
-    nested_written buckets_order c.self.inside.buckets (c.get_mut.follows.lender c.remove-place.new.self) c.args.bucket.now c.in-Some.keys.now c.remove-place.new.self
-    (sym c.get_mut.ensures.value ∙ ap option_copied_mut c.in-Some.is) (c.get_mut.follows.holds c.remove-place.new.self) c.self.invariant
-    (record {
-      ordered = c.remove-place.ensures.ordered;
-      filled = filled_unless c.is_empty-is_empty.result c.remove-place.new.self.entries c.if-is_empty.false (λ is. c.is_empty-is_empty.ensures.1 (ap length is));
-    })
+pub returns-in-Some-clause-place : goal.returns-in-Some-clause-place
+returns-in-Some-clause-place c =
+    let name = of_some c.of.result c.as_slice.result.now c.args.bucket.now c.in-Some.name c.of.ensures c.as_slice.ensures c.in-Some.is in
+    rw (← c.self.view_is)
+    (c.remove.ensures.place ∙ ap (λ (n : List ℕ). lookup (is_at (bucket_key_cmp (n, c.args.key.now))) c.self.inside.short.entries) name.1
+    ∙ sym (found_first types_order.inner_total in_short same_bucket c.self.inside.short.entries c.self.inside.long.entries c.self.invariant (c.args.bucket.now, c.args.key.now) name.0))
+
+pub returns-in-Some-clause-removed : goal.returns-in-Some-clause-removed
+returns-in-Some-clause-removed c =
+    let name = of_some c.of.result c.as_slice.result.now c.args.bucket.now c.in-Some.name c.of.ensures c.as_slice.ensures c.in-Some.is in
+    rw (← c.self.view_is)
+    (set_first types_order.inner_total in_short same_bucket c.self.inside.short.entries c.self.inside.long.entries c.remove.new.self.entries (c.args.bucket.now, c.args.key.now) None c.self.invariant c.remove.ensures.ordered name.0 (λ q. c.remove.ensures.removed q ∙ ap (λ (n : List ℕ). cond (is_at (bucket_key_cmp (n, c.args.key.now)) q) None (lookup (is_at (bucket_key_cmp q)) c.self.inside.short.entries)) name.1))
 
 pub returns-in-None-clause-place : goal.returns-in-None-clause-place
 returns-in-None-clause-place c =
     rw (← c.self.view_is)
-    (sym (found_in buckets_order c.args.bucket.now c.args.key.now c.self.inside.buckets.entries c.self.invariant None (sym c.get_mut.ensures.value ∙ ap option_copied_mut c.in-None.is)))
+    (c.remove-in-None.ensures.place ∙ sym (found_second types_order.inner_total in_short same_bucket c.self.inside.short.entries c.self.inside.long.entries c.self.invariant (c.args.bucket.now, c.args.key.now) (of_none c.of.result c.as_slice.result.now c.args.bucket.now c.of.ensures c.as_slice.ensures c.in-None.is)))
 
 pub returns-in-None-clause-removed : goal.returns-in-None-clause-removed
 returns-in-None-clause-removed c =
-    rw (← c.self.view_is, c.get_mut.follows.holds-at-none)
-    (λ other. found_absent buckets_order c.self.inside.buckets.entries c.self.invariant c.args.bucket.now (sym c.get_mut.ensures.value ∙ ap option_copied_mut c.in-None.is) c.args.key.now other.0 other.1)
+    rw (← c.self.view_is)
+    (set_second types_order.inner_total in_short same_bucket c.self.inside.short.entries c.self.inside.long.entries c.remove-in-None.new.self.entries (c.args.bucket.now, c.args.key.now) None c.self.invariant c.remove-in-None.ensures.ordered (of_none c.of.result c.as_slice.result.now c.args.bucket.now c.of.ensures c.as_slice.ensures c.in-None.is) c.remove-in-None.ensures.removed)
+
+pub returns-in-Some-clause-ordered : goal.returns-in-Some-clause-ordered
+returns-in-Some-clause-ordered c = merged_sorted types_order.inner_total c.remove.new.self.entries c.self.inside.long.entries c.remove.ensures.ordered
 
 pub returns-in-None-clause-ordered : goal.returns-in-None-clause-ordered
-returns-in-None-clause-ordered c = rw c.get_mut.follows.holds-at-none (nested_sorted buckets_order c.self.inside.buckets.entries c.self.invariant)
-
-pub returns-then-is_empty-clause-place : goal.returns-then-is_empty-clause-place
-returns-then-is_empty-clause-place c =
-    rw (← c.self.view_is)
-    (c.remove-place.ensures.value
-    ∙ sym (found_in buckets_order c.args.bucket.now c.args.key.now c.self.inside.buckets.entries c.self.invariant (Some c.in-Some.keys.now) (sym c.get_mut.ensures.value ∙ ap option_copied_mut c.in-Some.is)))
-
-pub returns-then-is_empty-clause-removed : goal.returns-then-is_empty-clause-removed
-returns-then-is_empty-clause-removed c =
-    rw (← c.self.view_is)
-    (λ other. found_emptied buckets_order c.self.inside.buckets (c.get_mut.follows.lender c.remove-place.new.self) c.remove.new.self c.args.bucket.now c.in-Some.keys.now c.remove-place.new.self
-    (sym c.get_mut.ensures.value ∙ ap option_copied_mut c.in-Some.is) (c.get_mut.follows.holds c.remove-place.new.self) c.remove.ensures.updates c.remove.ensures.ordered c.self.invariant
-    (empty_by_length c.remove-place.new.self.entries (c.is_empty-is_empty.ensures.0 c.if-is_empty.true)) c.args.key.now c.remove-place.ensures.updates.0 other.0 other.1)
-
-pub returns-then-is_empty-clause-ordered : goal.returns-then-is_empty-clause-ordered
-returns-then-is_empty-clause-ordered c =
-    nested_sorted buckets_order c.remove.new.self.entries
-    (nested_emptied buckets_order c.self.inside.buckets (c.get_mut.follows.lender c.remove-place.new.self) c.remove.new.self c.args.bucket.now c.in-Some.keys.now c.remove-place.new.self
-    (sym c.get_mut.ensures.value ∙ ap option_copied_mut c.in-Some.is) (c.get_mut.follows.holds c.remove-place.new.self) c.remove.ensures.updates c.remove.ensures.ordered c.self.invariant)
-
-pub returns-else-is_empty-clause-place : goal.returns-else-is_empty-clause-place
-returns-else-is_empty-clause-place c =
-    rw (← c.self.view_is)
-    (c.remove-place.ensures.value
-    ∙ sym (found_in buckets_order c.args.bucket.now c.args.key.now c.self.inside.buckets.entries c.self.invariant (Some c.in-Some.keys.now) (sym c.get_mut.ensures.value ∙ ap option_copied_mut c.in-Some.is)))
-
-pub returns-else-is_empty-clause-removed : goal.returns-else-is_empty-clause-removed
-returns-else-is_empty-clause-removed c =
-    rw (← c.self.view_is)
-    (λ other. found_written buckets_order c.self.inside.buckets (c.get_mut.follows.lender c.remove-place.new.self) c.args.bucket.now c.in-Some.keys.now c.remove-place.new.self
-    (sym c.get_mut.ensures.value ∙ ap option_copied_mut c.in-Some.is) (c.get_mut.follows.holds c.remove-place.new.self) c.self.invariant c.args.key.now None
-    c.remove-place.ensures.updates.0 other.0 other.1)
-
-pub returns-else-is_empty-clause-ordered : goal.returns-else-is_empty-clause-ordered
-returns-else-is_empty-clause-ordered c =
-    nested_sorted buckets_order (c.get_mut.follows.lender c.remove-place.new.self).entries (invariant_of-self-else-is_empty c)
+returns-in-None-clause-ordered c = merged_sorted types_order.inner_total c.self.inside.short.entries c.remove-in-None.new.self.entries c.self.invariant.first_ordered
