@@ -1,5 +1,5 @@
 -- What a session does with its next message.
-use Rattle.std.specs.Prelude.{◌≡◌, ◌<◌, [], ◌∷◌, ◌++◌, None, Result, Ok, Err, length}
+use Rattle.std.specs.Prelude.{◌≡◌, [], ◌∷◌, ◌++◌, None, Result, Ok, Err}
 use Rattle.pb_frame.specs.declared.fault.FrameFault.{FrameFault}
 use Rattle.pb_frame.specs.Limits.{max_request_len}
 use Rattle.pb_frame.specs.Message.{frame, FitsLimit, IsPartial, IsFaulty}
@@ -8,7 +8,7 @@ use Rattle.riak_msgs.specs.declared.reply.Reply.{Reply}
 use Rattle.riak_msgs.specs.declared.reply.Reply.TheVariants.{Error}
 use Rattle.node_session.specs.declared.exchange.Exchange.{Exchange}
 use Rattle.node_session.specs.declared.session.Next.{Next}
-use Rattle.node_session.specs.declared.session.Next.TheVariants.{Answered, Idle, Full}
+use Rattle.node_session.specs.declared.session.Next.TheVariants.{Answered, Idle}
 use Rattle.node_session.specs.declared.session.Halt.{Halt}
 use Rattle.node_session.specs.declared.session.Halt.TheVariants.{BadFrame, NoMemory}
 use Rattle.node_session.specs.Answers.{Answers, reply_frame, frame_fault_text, IsFramed, IsNoError}
@@ -51,6 +51,5 @@ module _ {S : Type 0} (Step : S → Request → Reply → S → Type 0) where
   abbrev pub AnswersNext : S → S → SessionView → SessionView → Result Next Halt → Type 0
   AnswersNext node node' old new (Ok Answered) = IsNextAnswered node node' old new
   AnswersNext node node' old new (Ok Idle) = IsPartial max_request_len old.rest × (new ≡ old) × (node' ≡ node)
-  AnswersNext node node' old new (Ok Full) = (0 < length old.unsent) × (new ≡ old) × (node' ≡ node)
   AnswersNext node node' old new (Err BadFrame) = IsBadNext old new × (node' ≡ node)
   AnswersNext node node' old new (Err NoMemory) = IsLost node node' old new

@@ -1,6 +1,5 @@
 //! A session in steps.
 ghost use Rattle.std.specs.Prelude.{◌≡◌, ◌<◌, ◌≤◌, ℕ, List, Option, length, true, false, IfSome, IfNone};
-ghost use Rattle.node_session.specs.Limits.{max_read_len};
 ghost use Rattle.node_session.specs.Views.{new_session};
 ghost use Rattle.node_session.specs.Courses.{Came, Goes, Fits, IsGoing, CanWait, IsOver, weight};
 ghost use Rattle.node_session.specs.declared.stage.Stage.TheVariants.{Answering, Over};
@@ -8,17 +7,18 @@ ghost use Rattle.node_session.specs.declared.stage.Stage.TheVariants.{Answering,
 use crate::ended::Ended;
 use crate::fault::SessionFault;
 use crate::node::Node;
+use crate::scratch::Scratch;
 use crate::stage::Stage;
 use crate::talk::Talk;
 use std::alloc::Global;
 use std::io::{Read, Write};
 
-/// A session in steps, which knows neither its streams nor its node: these are lent to each step.
+/// A session in steps, which knows neither its streams nor its node: these are lent to each step, and so is the room for what it reads and replies.
 ///
 /// ```text
 /// let mut course = Course::new(alloc, 1000);                              // 1,000 reads at most
-/// course.step(alloc, &mut reader, &mut writer, &mut node, &mut piece)     // false: nothing has come, so it flushes; then it reads, answers, writes
-/// course.step(alloc, &mut reader, &mut writer, &mut node, &mut piece)     // true, once a stream would have to wait: call again when it is ready,
+/// course.step(alloc, &mut reader, &mut writer, &mut node, &mut scratch)     // false: nothing has come, so it flushes; then it reads, answers, writes
+/// course.step(alloc, &mut reader, &mut writer, &mut node, &mut scratch)     // true, once a stream would have to wait: call again when it is ready,
 /// course.stop::<N>()                                                      // or end the session there
 /// course.outcome()                                                        // Some(Err(SessionFault::ReadFailed(0)))
 /// ```
@@ -62,11 +62,10 @@ impl Course {
         reader: &mut R,
         writer: &mut W,
         node: &mut N,
-        piece: &mut [u8],
+        scratch: &mut Scratch,
     ) -> bool
         requires going { IsGoing self.old.stage }
         requires fits { Fits self.old.stage self.old.talk }
-        requires room { (0 < length piece.old) × (length piece.old ≤ max_read_len) }
         ensures goes { Goes N.step node.old node.new
             (R.remaining reader.old) (R.remaining reader.new)
             (W.contents writer.old) (W.contents writer.new)
@@ -78,7 +77,10 @@ impl Course {
         ensures still { result ≡ true → self.new ≡ self.old }
         ensures most { self.new.talk.most ≡ self.old.talk.most }
     {
-        match self.talk.go(self.stage, alloc, reader, writer, node, piece) {
+        match self
+            .talk
+            .go(self.stage, alloc, reader, writer, node, scratch)
+        {
             Some(stage) => {
                 self.stage = stage;
                 false
@@ -101,5 +103,11 @@ impl Course {
     {
         let result = self.talk.give_up::<N>(self.stage);
         self.stage = Stage::Over(result);
+    }
+
+    /// Lets it go, and gives back the room that was lent to it: where a session is over before all of its reply was sent.
+    pub fn end(self, scratch: &mut Scratch) {
+        let Course { talk, stage: _ } = self;
+        talk.end(scratch);
     }
 }

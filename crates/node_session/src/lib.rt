@@ -14,10 +14,10 @@
 //! of these replies are written. A length that no frame has is answered by one error, and ends the session. Each other
 //! end has its clause too: how many whole replies went out before it, and the state of the node (`specs/Session`).
 //!
-//! [`Session`] is one that knows no stream: what was read is fed to it, each answer is lent the node, and what is to be sent is looked at and
-//! told as sent. [`Course`] drives one by steps, each of which answers one message or calls one stream once, and sends each reply before it
-//! answers on: whoever has many of them may take their steps in any order, and each comes to what `serve` promises (`specs/Courses`).
-//! [`serve`] is the loop of these steps, over streams that wait.
+//! [`Course`] is a session in steps, each of which answers one message or calls one stream once; each reply is sent before the next message is
+//! answered. Whoever has many of them may take their steps in any order, and each comes to what `serve` promises (`specs/Courses`). [`serve`] is
+//! the loop of these steps, over streams that wait. What a step reads into, and where a reply's frame lies until it was sent, is lent to it
+//! ([`Scratch`]), so a session that waits for its next request holds no buffer.
 //!
 //! `serve` reads up to 4,096 bytes at a time, and answers each whole frame that has come before it reads on. Where it
 //! stops among its answers, no frame is left unanswered but those that its last 4,096 bytes at most made whole. It never
@@ -42,6 +42,7 @@ mod outbox;
 mod plain_node;
 mod reply;
 mod report;
+mod scratch;
 mod serving;
 mod session;
 mod stage;
@@ -56,8 +57,8 @@ pub use laws::{plain_node_is_register, read_limit};
 pub use node::Node;
 pub use plain_node::{NodeFault, PlainNode};
 pub use report::{exit_status, write_fault};
+pub use scratch::Scratch;
 pub use serving::{MAX_READ_LEN, serve};
-pub use session::{Halt, Next, Session};
 pub use stage::Stage;
 pub use talk::Talk;
 pub use vnode_reply::answer_reply;

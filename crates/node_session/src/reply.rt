@@ -6,6 +6,7 @@ ghost use Rattle.riak_msgs.specs.Replies.{reply_body};
 ghost use Rattle.node_session.specs.Answers.{reply_frame, message_fault_text, frame_fault_text, IsFramed};
 ghost use Rattle.node_session.specs.Answers.{HasNoFrame};
 
+use crate::scratch::Scratch;
 use pb_frame::{FrameFault, HEADER_LEN, header};
 use riak_msgs::{MsgFault, Reply, Text};
 
@@ -45,10 +46,12 @@ fn reply_header(reply: &Reply, body_len: usize) -> Result<[u8; HEADER_LEN], Fram
     header(reply.code(), body_len)
 }
 
-/// Puts the frame of a reply behind what a buffer has, which is made large enough first: the header, and the body behind it. Where it is
-/// refused a part may be there.
-fn append_frame(out: &mut Vec<u8>, reply: &Reply) -> Result<(), FrameFault>
-    ensures frame { OnOk result (out.new.items ≡ out.old.items ++ reply_frame reply.now) }
+/// Writes the frame of a reply into an empty buffer: the header, and the body behind it. Room for it is lent, or made in the buffer, first. Where it
+/// is refused a part may be there.
+#[inline(always)]
+fn write_frame(out: &mut Vec<u8>, reply: &Reply, scratch: &mut Scratch) -> Result<(), FrameFault>
+    requires { out.old.items ≡ [] }
+    ensures frame { OnOk result (out.new.items ≡ reply_frame reply.now) }
     ensures framed { OnOk result (IsFramed reply.now) }
     ensures fault { IfErr result (HasNoFrame reply.now) }
 {
@@ -56,7 +59,9 @@ fn append_frame(out: &mut Vec<u8>, reply: &Reply) -> Result<(), FrameFault>
         return Err(FrameFault::NoMemory);
     };
     let header = reply_header(reply, len)?;
-    out.reserve(HEADER_LEN.saturating_add(len))?;
+    let wanted = HEADER_LEN.saturating_add(len);
+    scratch.lend_reply(out, wanted);
+    out.reserve(wanted)?;
     out.extend_from_slice(&header)?;
     match reply.append_body(out) {
         Ok(()) => Ok(()),
@@ -64,18 +69,23 @@ fn append_frame(out: &mut Vec<u8>, reply: &Reply) -> Result<(), FrameFault>
     }
 }
 
-/// Puts the frame of a reply into an empty buffer. Refused by `TooLarge` just where a frame can't hold the reply's body, and
-/// where memory is refused; the buffer stays empty then.
-pub(crate) fn fill_frame(out: &mut Vec<u8>, reply: &Reply) -> Result<(), FrameFault>
+/// Puts the frame of a reply into an empty buffer, with the room that is lent where it has enough. Refused by `TooLarge` just where a frame can't
+/// hold the reply's body, and where memory is refused; the buffer is empty then.
+#[inline(always)]
+pub(crate) fn fill_frame(
+    out: &mut Vec<u8>,
+    reply: &Reply,
+    scratch: &mut Scratch,
+) -> Result<(), FrameFault>
     requires { out.old.items ≡ [] }
     ensures ok { OnOk result (out.new.items ≡ reply_frame reply.now) }
     ensures framed { OnOk result (IsFramed reply.now) }
     ensures fault { IfErr result (HasNoFrame reply.now) }
     ensures err { OnErr result (out.new.items ≡ []) }
 {
-    let filled = append_frame(out, reply);
+    let filled = write_frame(out, reply, scratch);
     if filled.is_err() {
-        out.clear();
+        scratch.take_reply(out);
     }
     filled
 }

@@ -9,6 +9,7 @@ use crate::course::Course;
 use crate::ended::Ended;
 use crate::fault::SessionFault;
 use crate::node::Node;
+use crate::scratch::Scratch;
 use std::alloc::Global;
 use std::io::{Read, Write};
 
@@ -49,12 +50,12 @@ pub fn serve<R: Read, W: Write, N: Node>(
         → MadeReads (R.remaining reader.old) (R.remaining reader.new) reads) }
 {
     let mut course = Course::new(alloc, reads);
-    let mut piece = [0u8; MAX_READ_LEN];
+    let mut scratch = Scratch::new(alloc);
     'steps: loop {
         if let Some(result) = course.outcome() {
             return result;
         }
-        if course.step(alloc, reader, writer, node, &mut piece) {
+        if course.step(alloc, reader, writer, node, &mut scratch) {
             course.stop::<N>();
         }
     }

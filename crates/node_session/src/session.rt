@@ -1,6 +1,6 @@
 //! A session in steps: bytes come in, messages are answered, bytes go out.
 
-ghost use Rattle.std.specs.Prelude.{◌≡◌, ◌+◌, ◌^◌, ◌≤◌, ◌<◌, ◌++◌, drop, length, None, OnOk, OnErr};
+ghost use Rattle.std.specs.Prelude.{◌≡◌, ◌+◌, ◌^◌, ◌≤◌, ◌<◌, ◌++◌, [], drop, length, None, OnOk, OnErr};
 ghost use Rattle.pb_frame.specs.Limits.{max_request_len};
 ghost use Rattle.node_session.specs.Limits.{max_read_len};
 ghost use Rattle.pb_frame.specs.Message.{IsPartial, given_length};
@@ -13,6 +13,7 @@ use crate::exchange::Exchange;
 use crate::node::Node;
 use crate::outbox::Outbox;
 use crate::reply::frame_fault_text;
+use crate::scratch::Scratch;
 use ghost_state::{GhostList, Listing};
 use pb_frame::{Framer, MAX_REQUEST_LEN};
 use std::alloc::{AllocError, Global};
@@ -21,18 +22,16 @@ use std::marker::Model;
 /// What a session did about its next message.
 #[derive(Clone, Copy, Drop)]
 pub enum Next {
-    /// It was answered, and its reply is to be sent behind all others.
+    /// It was answered, and its reply is to be sent.
     Answered,
     /// None has come whole: the session waits for a further piece.
     Idle,
-    /// So much waits to be sent that none is answered before some of it was.
-    Full,
 }
 
-/// Why a session ends among its answers. What it has to send is still to be sent.
+/// Why a session ends among its answers.
 #[derive(Clone, Copy, Drop)]
 pub enum Halt {
-    /// A bad length stood next. Its error is to be sent behind the replies.
+    /// A bad length stood next. Its error is to be sent.
     BadFrame,
     /// Memory was refused for a reply, which is lost. The node has taken its step.
     NoMemory,
@@ -41,9 +40,8 @@ pub enum Halt {
 /// One connection's session, which knows neither its reader nor its writer nor its node: pieces that were read are fed to it, a node is lent
 /// to each answer, and what is to be sent is looked at and told as sent. So it serves streams that wait and streams that don't.
 ///
-/// It holds the message that is still to come whole, what was read along with it, and the frames of the replies that weren't sent yet:
-/// where 65,536 bytes of these wait, or an error for which there was no memory, no further message is answered. Contracts see all that was
-/// read and each message with its reply too, of which nothing is held.
+/// It holds the message that is still to come whole, what was read along with it, and what is still to be sent of the last reply: the next
+/// message is answered once all of it was. Contracts see all that was read and each message with its reply too, of which nothing is held.
 #[derive(Drop)]
 pub struct Session {
     framer: Framer,
@@ -54,7 +52,6 @@ pub struct Session {
 
 impl Model for Session {
     ghost use Rattle.std.specs.Prelude.{◌≡◌};
-    ghost use Rattle.node_session.specs.Unsent.{whole};
     ghost use Rattle.pb_frame.specs.Limits.{max_request_len};
     ghost use Rattle.node_session.specs.Limits.{max_read_len};
     ghost use Rattle.node_session.specs.Views.{SessionView, IsRead};
@@ -66,7 +63,7 @@ impl Model for Session {
       exchanges = s.exchanges;
       rest = s.framer.rest;
       fault = s.framer.fault;
-      unsent = whole s.outbox;
+      unsent = s.outbox;
     } };
 
     ghost invariant = { λ s. (s.framer.limit ≡ max_request_len)
@@ -129,6 +126,26 @@ impl Session {
         Ok(())
     }
 
+    /// Lends it room for a piece of so many bytes.
+    #[inline(always)]
+    pub(crate) fn lend(&mut self, requests: &mut Vec<u8>, more: usize)
+        ensures { self.new ≡ self.old }
+    {
+        self.framer.lend(requests, more);
+    }
+
+    /// Gives the room back that was lent to it, where nothing is to be answered any more.
+    #[inline(always)]
+    pub(crate) fn give_back(&mut self, scratch: &mut Scratch)
+        requires { self.old.unsent ≡ [] }
+        ensures { self.new ≡ self.old }
+    {
+        if self.framer.rest() == 0 {
+            scratch.take_requests(&mut self.framer);
+            self.outbox.give_back(scratch);
+        }
+    }
+
     /// Takes a piece, as `feed` does, of a session whose messages a node answers: once more where memory was refused and the node made room.
     pub fn feed_for<N: Node>(
         &mut self,
@@ -156,8 +173,7 @@ impl Session {
         }
     }
 
-    /// What is to be sent first: not all of it where an error waits for which there was no memory. There is none only where nothing is to be
-    /// sent.
+    /// What is to be sent first. There is none only where nothing is to be sent.
     pub fn pending(&self) -> &[u8]
         ensures { IsFront result.now self.now.unsent }
     {
@@ -181,15 +197,18 @@ impl Session {
 
     /// Answers the next message that has come whole, by a step of the node or, where it is no request, by its error, which takes no memory.
     /// After a halt there is nothing more to feed or answer.
-    pub fn answer_next<N: Node>(&mut self, alloc: Global, node: &mut N) -> Result<Next, Halt>
-        requires { self.old.fault ≡ None }
+    pub fn answer_next<N: Node>(
+        &mut self,
+        alloc: Global,
+        node: &mut N,
+        scratch: &mut Scratch,
+    ) -> Result<Next, Halt>
+        requires no_fault { self.old.fault ≡ None }
+        requires sent { self.old.unsent ≡ [] }
         ensures { AnswersNext N.step node.old node.new self.old self.new result }
     {
-        if self.outbox.is_full() {
-            return Ok(Next::Full);
-        }
         match answer_next(alloc, &mut self.framer, &mut self.exchanges, node) {
-            Ok(Some(reply)) => match self.outbox.put(alloc, &*node, reply) {
+            Ok(Some(reply)) => match self.outbox.put(alloc, &*node, reply, scratch) {
                 Ok(()) => Ok(Next::Answered),
                 Err(_) => Err(Halt::NoMemory),
             },
@@ -199,5 +218,16 @@ impl Session {
                 Err(Halt::BadFrame)
             }
         }
+    }
+
+    /// Gives back the room that was lent to a session that is over.
+    pub(crate) fn end(self, scratch: &mut Scratch) {
+        let Session {
+            framer,
+            outbox,
+            input: _,
+            exchanges: _,
+        } = self;
+        scratch.take_all(framer, outbox.into_frame());
     }
 }

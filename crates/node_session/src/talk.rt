@@ -11,6 +11,7 @@ ghost use Rattle.node_session.specs.declared.stage.Stage.TheVariants.{Answering,
 use crate::ended::Ended;
 use crate::fault::SessionFault;
 use crate::node::Node;
+use crate::scratch::Scratch;
 use crate::session::{Halt, Next, Session};
 use crate::stage::Stage;
 use byte_streams::{Flushed, Wrote, try_flush, try_write};
@@ -43,7 +44,12 @@ impl Talk {
 
     /// Answers the next message, if one has come whole.
     #[inline(always)]
-    pub(crate) fn answer<N: Node>(&mut self, alloc: Global, node: &mut N) -> Stage
+    pub(crate) fn answer<N: Node>(
+        &mut self,
+        alloc: Global,
+        node: &mut N,
+        scratch: &mut Scratch,
+    ) -> Stage
         requires { Fits Answering self.old }
         ensures goes { (unread held : Option (List ℕ)) → Goes N.step node.old node.new
             unread unread held held Answering self.old result self.new }
@@ -52,10 +58,10 @@ impl Talk {
         ensures most { self.new.most ≡ self.old.most }
     {
         self.session.is_read();
-        match self.session.answer_next(alloc, node) {
+        self.session.give_back(scratch);
+        match self.session.answer_next(alloc, node, scratch) {
             Ok(Next::Answered) => Stage::Sending,
             Ok(Next::Idle) => Stage::Flushing,
-            Ok(Next::Full) => unreachable!(),
             Err(Halt::BadFrame) => Stage::Telling,
             Err(Halt::NoMemory) => Stage::Closing(SessionFault::NoMemory(self.replies)),
         }
@@ -167,7 +173,7 @@ impl Talk {
         }
     }
 
-    /// Reads once into a buffer of at most 4,096 bytes, and takes what comes, which this node will answer. None where the reader would have to
+    /// Reads once into a buffer of at most 4,096 bytes, and takes what comes, which this node will answer, where it has no room into what is lent. None where the reader would have to
     /// wait.
     #[inline(always)]
     pub(crate) fn read<N: Node, R: Read>(
@@ -176,6 +182,7 @@ impl Talk {
         reader: &mut R,
         node: &N,
         piece: &mut [u8],
+        requests: &mut Vec<u8>,
     ) -> Option<Stage>
         requires fits { Fits Reading self.old }
         requires room { (0 < length piece.old) × (length piece.old ≤ max_read_len) }
@@ -197,6 +204,7 @@ impl Talk {
             }))),
             Ok(n) => {
                 self.made += 1;
+                self.session.lend(requests, n);
                 let Ok(()) = self.session.feed_for(alloc, node, &piece[..n]) else {
                     return Some(Stage::Closing(SessionFault::NoMemory(self.replies)));
                 };
@@ -222,11 +230,10 @@ impl Talk {
         reader: &mut R,
         writer: &mut W,
         node: &mut N,
-        piece: &mut [u8],
+        scratch: &mut Scratch,
     ) -> Option<Stage>
         requires going { IsGoing stage }
         requires fits { Fits stage self.old }
-        requires room { (0 < length piece.old) × (length piece.old ≤ max_read_len) }
         ensures goes { IfSome result (λ to. Goes N.step node.old node.new
             (R.remaining reader.old) (R.remaining reader.new)
             (W.contents writer.old) (W.contents writer.new) stage self.old to self.new) }
@@ -239,11 +246,18 @@ impl Talk {
         ensures most { self.new.most ≡ self.old.most }
     {
         match stage {
-            Stage::Answering => Some(self.answer(alloc, node)),
+            Stage::Answering => Some(self.answer(alloc, node, scratch)),
             Stage::Sending => self.send::<N, W>(writer),
             Stage::Telling => self.tell::<N, W>(writer),
             Stage::Flushing => self.flush::<N, W>(writer),
-            Stage::Reading => self.read::<N, R>(alloc, reader, &*node, piece),
+            Stage::Reading => {
+                let Scratch {
+                    piece,
+                    requests,
+                    ..
+                } = scratch;
+                self.read::<N, R>(alloc, reader, &*node, piece, requests)
+            }
             Stage::Closing(fault) => self.close::<N, W>(writer, fault),
             Stage::Over(_) => unreachable!(),
         }
@@ -266,5 +280,16 @@ impl Talk {
             Stage::Closing(fault) => Err(fault),
             Stage::Over(_) => unreachable!(),
         }
+    }
+
+    /// Gives back the room that was lent to a session that is over.
+    pub(crate) fn end(self, scratch: &mut Scratch) {
+        let Talk {
+            session,
+            replies: _,
+            made: _,
+            most: _,
+        } = self;
+        session.end(scratch);
     }
 }

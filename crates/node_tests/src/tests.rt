@@ -17,7 +17,6 @@ mod options;
 mod reports;
 mod scripts;
 mod sessions;
-mod steps;
 mod stops;
 mod streams;
 mod turns;

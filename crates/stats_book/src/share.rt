@@ -60,7 +60,7 @@ impl<G: Ledger, P: Ledger, D: Ledger, E: Ledger, R: Ledger> Share<G, P, D, E, R>
     }
 
     /// Locks the book, and raises all quantities there and here by so much. Where one of the numbers there would pass 18,446,744,073,709,551,615 the
-    /// book is full; some quantities may have risen then, in both by the same.
+    /// book is full: that number stays, and the others rise, in both by the same.
     ///
     /// It waits while another has the lock.
     pub(crate) fn add_all<W: Wait>(

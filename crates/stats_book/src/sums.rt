@@ -69,7 +69,8 @@ impl<G: Ledger, P: Ledger, D: Ledger, E: Ledger, R: Ledger> Sums<G, P, D, E, R> 
         }
     }
 
-    /// Raises all quantities here and in the share by so much. Where one of the numbers here would pass 18,446,744,073,709,551,615 the book is full.
+    /// Raises all quantities here and in the share by so much. Where one of the numbers here would pass 18,446,744,073,709,551,615 the book is full: that
+    /// one stays, and the others rise.
     pub(crate) fn add_all(
         &mut self,
         share: &mut Share<G, P, D, E, R>,
@@ -79,11 +80,12 @@ impl<G: Ledger, P: Ledger, D: Ledger, E: Ledger, R: Ledger> Sums<G, P, D, E, R> 
         ensures sole { AllAre 1 G.parts P.parts D.parts E.parts R.parts
             → IfErr result (λ _. ArePastFull share.old more.now) }
     {
-        self.add(share, Quantity::Gets, more.gets)?;
-        self.add(share, Quantity::Puts, more.puts)?;
-        self.add(share, Quantity::Deletes, more.deletes)?;
-        self.add(share, Quantity::Refusals, more.refusals)?;
-        self.add(share, Quantity::Reaps, more.reaps)
+        let gets = self.add(share, Quantity::Gets, more.gets);
+        let puts = self.add(share, Quantity::Puts, more.puts);
+        let deletes = self.add(share, Quantity::Deletes, more.deletes);
+        let refusals = self.add(share, Quantity::Refusals, more.refusals);
+        let reaps = self.add(share, Quantity::Reaps, more.reaps);
+        gets.and(puts).and(deletes).and(refusals).and(reaps)
     }
 
     /// Zeros, and all shares of them in one hand.

@@ -75,7 +75,7 @@ where
         bell,
     } = seat;
     Ok(Station {
-        worker: Tray::new(stock, place),
+        worker: Tray::new(alloc, stock, place),
         sink: Teller::new(sink, seen),
         readiness: Watch::new(alloc, readiness, kept, place),
         bell,

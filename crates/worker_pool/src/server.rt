@@ -131,7 +131,7 @@ where
         opened: &mut Sitting<GateNode<'a, X, T, G, P, D, E, R>, I, O>,
         may_wait: bool,
     ) -> Moved {
-        opened.step(alloc, &mut worker.piece, may_wait)
+        opened.step(alloc, &mut worker.scratch, may_wait)
     }
 
     fn close(
@@ -139,7 +139,7 @@ where
         worker: &mut Tray<G, P, D, E, R>,
         opened: Sitting<GateNode<'a, X, T, G, P, D, E, R>, I, O>,
     ) -> ServedJob<I, O> {
-        let (result, mut reader, mut writer, node) = opened.parts();
+        let (result, mut reader, mut writer, node) = opened.parts(&mut worker.scratch);
         reader.ended();
         writer.ended();
         let (share, passes, book_full) = parts_of(node);

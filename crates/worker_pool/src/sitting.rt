@@ -1,6 +1,5 @@
 //! A session that is open.
-ghost use Rattle.std.specs.Prelude.{◌≡◌, ◌<◌, ◌≤◌, ◌^◌, ℕ, List, Option, length};
-ghost use Rattle.node_session.specs.Limits.{max_read_len};
+ghost use Rattle.std.specs.Prelude.{◌≡◌, ◌<◌, ◌≤◌, ◌^◌, ℕ, List, Option};
 ghost use Rattle.node_session.specs.Views.{new_session};
 ghost use Rattle.node_session.specs.Courses.{Came, IsOver, weight};
 ghost use Rattle.node_session.specs.declared.stage.Stage.TheVariants.{Answering};
@@ -8,7 +7,7 @@ ghost use Rattle.job_pool.specs.declared.service.Moved.TheVariants.{Going, Waits
 ghost use Rattle.worker_pool.specs.Sitting.{IsOutcomeOf};
 
 use job_pool::Moved;
-use node_session::{Course, Ended, Node, SessionFault};
+use node_session::{Course, Ended, Node, Scratch, SessionFault};
 use std::alloc::Global;
 use std::io::{Read, Write};
 use std::marker::Model;
@@ -75,10 +74,9 @@ impl<N: Node, R: Read, W: Write> Sitting<N, R, W> {
         &self.writer
     }
 
-    /// Takes one step of it: it answers one message, or calls one stream once, which reads into `piece`. Where a stream would have to wait,
-    /// and may not, that counts as a failure of the stream, and the session is over.
-    pub(crate) fn step(&mut self, alloc: Global, piece: &mut [u8], may_wait: bool) -> Moved
-        requires { (0 < length piece.old) × (length piece.old ≤ max_read_len) }
+    /// Takes one step of it: it answers one message, or calls one stream once. Where a stream would have to wait, and may not, that counts as a
+    /// failure of the stream, and the session is over.
+    pub(crate) fn step(&mut self, alloc: Global, scratch: &mut Scratch, may_wait: bool) -> Moved
         ensures goes { (first : N) (unread held : Option (List ℕ))
             → Came N.step first self.old.node unread (R.remaining self.old.reader)
             held (W.contents self.old.writer) self.old.stage self.old.talk
@@ -99,7 +97,7 @@ impl<N: Node, R: Read, W: Write> Sitting<N, R, W> {
             &mut self.reader,
             &mut self.writer,
             &mut self.node,
-            piece,
+            scratch,
         ) {
             return Moved::Going;
         }
@@ -110,8 +108,8 @@ impl<N: Node, R: Read, W: Write> Sitting<N, R, W> {
         Moved::Over
     }
 
-    /// What came of a session that is over, its streams and its node.
-    pub(crate) fn parts(self) -> (Result<Ended, SessionFault>, R, W, N)
+    /// What came of a session that is over, its streams and its node. The room that was lent to it goes back.
+    pub(crate) fn parts(self, scratch: &mut Scratch) -> (Result<Ended, SessionFault>, R, W, N)
         requires { IsOver self.stage }
         ensures outcome { IsOutcomeOf self.stage result.0 }
         ensures reader { result.1 ≡ self.reader }
@@ -124,9 +122,10 @@ impl<N: Node, R: Read, W: Write> Sitting<N, R, W> {
             reader,
             writer,
         } = self;
-        match course.outcome() {
-            Some(result) => (result, reader, writer, node),
-            None => unreachable!(),
-        }
+        let Some(result) = course.outcome() else {
+            unreachable!()
+        };
+        course.end(scratch);
+        (result, reader, writer, node)
     }
 }

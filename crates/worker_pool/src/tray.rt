@@ -2,20 +2,20 @@
 ghost use Rattle.std.specs.Prelude.{◌≡◌, IfOk, IfSome};
 ghost use Rattle.stats_book.specs.Counting.{both, zeros};
 
-use node_session::MAX_READ_LEN;
+use node_session::Scratch;
 use stats_book::{Share, Stock};
 use std::alloc::{AllocError, Global};
 use std::marker::Model;
 use std::sync::ledger::Ledger;
 
-/// The shares of a book that a worker's sessions take and give back, the bytes that a read comes into, which are lent to each step, and which
-/// of the run's reserves is the worker's, where it has them.
+/// The shares of a book that a worker's sessions take and give back, what is lent to each of their steps, and which of the run's reserves is the
+/// worker's, where it has them.
 ///
 /// Contracts see what the shares that came back have counted.
 #[derive(Drop)]
 pub struct Tray<G: Ledger, P: Ledger, D: Ledger, E: Ledger, R: Ledger> {
     stock: Stock<G, P, D, E, R>,
-    pub(crate) piece: [u8; MAX_READ_LEN],
+    pub(crate) scratch: Scratch,
     pub(crate) place: usize,
 }
 
@@ -28,13 +28,20 @@ impl<G: Ledger, P: Ledger, D: Ledger, E: Ledger, R: Ledger> Model for Tray<G, P,
 }
 
 impl<G: Ledger, P: Ledger, D: Ledger, E: Ledger, R: Ledger> Tray<G, P, D, E, R> {
-    /// Of the worker in this place, which has served nothing, with this stock.
-    pub(crate) fn new(stock: Stock<G, P, D, E, R>, place: usize) -> Tray<G, P, D, E, R>
+    /// Of the worker in this place, which has served nothing, with this stock. It makes the room that the worker lends to its sessions, once: a
+    /// session that has a message in part keeps it. Where there is no memory for it, each session takes its own.
+    pub(crate) fn new(
+        alloc: Global,
+        stock: Stock<G, P, D, E, R>,
+        place: usize,
+    ) -> Tray<G, P, D, E, R>
         ensures { result ≡ stock }
     {
+        let mut scratch = Scratch::new(alloc);
+        let _is_made = scratch.make_room();
         Tray {
             stock,
-            piece: [0; MAX_READ_LEN],
+            scratch,
             place,
         }
     }
@@ -60,7 +67,7 @@ impl<G: Ledger, P: Ledger, D: Ledger, E: Ledger, R: Ledger> Tray<G, P, D, E, R> 
     {
         let Tray {
             stock,
-            piece: _,
+            scratch: _,
             place: _,
         } = self;
         stock
@@ -77,7 +84,7 @@ pub(crate) fn trays_of<G: Ledger, P: Ledger, D: Ledger, E: Ledger, R: Ledger>(
     let mut trays = Vec::with_capacity(alloc, stocks.len())?;
     for stock in stocks {
         let place = trays.len();
-        trays.push(Tray::new(stock, place))?;
+        trays.push(Tray::new(alloc, stock, place))?;
     }
     Ok(trays)
 }

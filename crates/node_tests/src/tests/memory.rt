@@ -1,6 +1,6 @@
 //! Sessions to which memory is refused, and what takes none.
 //!
-//! `scripts/refuse-memory` runs them once for each of their allocations, and refuses that one.
+//! `scripts/maintain/refuse-memory` runs them once for each of their allocations, and refuses that one.
 
 use crate::tests::exchange::answers;
 use crate::tests::frames::{

@@ -3,9 +3,10 @@
 ghost use Rattle.node_session.specs.Courses.{Fits};
 ghost use Rattle.std.specs.Prelude.{◌<◌};
 
-use crate::tests::sessions::{Session, joined};
+use crate::tests::frames::{PING, PONG};
+use crate::tests::sessions::{Part, Session, joined};
 use crate::tests::streams::{Call, Channel, Trouble, attempt};
-use node_session::{Course, Ended, MAX_READ_LEN, PlainNode, SessionFault};
+use node_session::{Course, Ended, PlainNode, Scratch, SessionFault};
 use std::alloc::Global;
 use std::cell::Cell;
 use std::io;
@@ -82,15 +83,15 @@ fn outcome_of(
     source: &mut Giving,
     sink: &mut Comparing,
     node: &mut PlainNode,
+    scratch: &mut Scratch,
 ) -> Option<Result<Ended, SessionFault>>
     requires { Fits course.old.stage course.old.talk }
 {
-    let mut piece = [0u8; MAX_READ_LEN];
     for _ in 0..1_000_000u32 {
         if let Some(result) = course.outcome() {
             return Some(result);
         }
-        let _waits = course.step(alloc, source, sink, node, &mut piece);
+        let _waits = course.step(alloc, source, sink, node, scratch);
     }
     None
 }
@@ -127,8 +128,86 @@ pub fn comes_so(alloc: Global, row: &Carried) -> bool {
         left: &left,
     };
     let mut course = Course::new(alloc, MAX_READS);
-    let end = outcome_of(alloc, &mut course, &mut source, &mut sink, &mut node);
+    let mut scratch = Scratch::new(alloc);
+    let end = outcome_of(
+        alloc,
+        &mut course,
+        &mut source,
+        &mut sink,
+        &mut node,
+        &mut scratch,
+    );
     end == Some(row.end) && left.get() == row.left
+}
+
+/// Takes 4,099 bytes, and lets them go: whether it got them.
+fn mark(alloc: Global) -> bool {
+    match Vec::<u8>::with_capacity(alloc, 4_099) {
+        Ok(bytes) => bytes.is_empty(),
+        Err(_) => false,
+    }
+}
+
+/// How a session of this input ends whose steps are lent room, between two marks.
+fn ends_between_marks(alloc: Global, input: &[u8], output: &[u8]) -> Option<Ended> {
+    let Ok(mut node) = PlainNode::new(alloc, 1) else {
+        return None;
+    };
+    let left = Cell::new(output.len());
+    let mut source = Giving {
+        left: input,
+        piece: 4_096,
+        troubles: &[],
+        reads: 0,
+    };
+    let mut sink = Comparing {
+        due: output,
+        most: output.len(),
+        troubles: &[],
+        writes: 0,
+        left: &left,
+    };
+    let mut scratch = Scratch::new(alloc);
+    let mut course = Course::new(alloc, MAX_READS);
+    if !scratch.make_room() || !mark(alloc) {
+        return None;
+    }
+    let end = outcome_of(
+        alloc,
+        &mut course,
+        &mut source,
+        &mut sink,
+        &mut node,
+        &mut scratch,
+    );
+    match end {
+        Some(Ok(ended)) if mark(alloc) && left.get() == 0 => Some(ended),
+        _ => None,
+    }
+}
+
+const PINGS: &[Part] = &[Part::Times(2_000, PING)];
+
+const PONGS: &[Part] = &[Part::Times(2_000, PONG)];
+
+/// How a session of pings ends, between two marks.
+fn pings_end(alloc: Global) -> Option<Ended> {
+    match (joined(alloc, PINGS), joined(alloc, PONGS)) {
+        (Ok(input), Ok(output)) => ends_between_marks(alloc, &input, &output),
+        _ => None,
+    }
+}
+
+// In room that is lent a session takes no memory for what comes and goes, also where a message comes in two pieces.
+#[test]
+fn pings_in_lent_room(rt: HostRuntime) {
+    let end = pings_end(rt.alloc());
+    assert!(rt;
+        end == Some(Ended {
+            replies: 2_000,
+            rest: 0
+        })
+    );
 }
 
 /// Whether a session goes as its row says, and takes all of its output.

@@ -6,11 +6,11 @@ use Rattle.node_session.proofs.outbox.Outbox.sent.Goals as goal
 pub returns-else-n-waits : goal.returns-else-n-waits
 returns-else-n-waits c =
     let was = c.self.inside in
-    let late = was.late.now in
-    let left = drop was.sent was.frames.items in
+    let late = was.error.now in
+    let left = drop was.sent was.frame.items in
     let gone = c.args.n - (c.len.result - was.sent) in
-    let items : c.shrink_empty.new.bytes.items ≡ [] = c.shrink_empty.ensures.items ∙ c.clear.ensures.items in
-    let cut = length-drop was.sent was.frames.items in
+    let items : c.clear.new.self.items ≡ [] = c.clear.ensures.items in
+    let cut = length-drop was.sent was.frame.items in
     let same : length left ≡ c.len.result - was.sent = omega (arith, cut, c.len.ensures) in
     let past : drop c.args.n (left ++ late) ≡ drop gone late = drop_past left late c.args.n (omega (arith, same, c.if-n-waits.false)) ∙ ap (λ (k : ℕ). drop (c.args.n - k) late) same in
     rw (sym c.self.view_is) (ap (λ (l : List ℕ). drop 0 l ++ take (length late - gone) (drop gone late)) items ∙ take_rest late gone ∙ sym past)

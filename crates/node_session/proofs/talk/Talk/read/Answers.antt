@@ -1,5 +1,5 @@
-use Rattle.std.proofs.Common.{◌≡◌, ◌<◌, ◌≤◌, length, take, refl, arith}
-use Rattle.node_session.proofs.Coming.{piece_lost, piece_fed, interrupted, read_failed}
+use Rattle.std.proofs.Common.{◌≡◌, ◌<◌, ◌≤◌, ◌++◌, length, take, refl, subst, arith}
+use Rattle.node_session.proofs.Coming.{ended_input, piece_lost, piece_fed, interrupted, read_failed}
 use Rattle.node_session.proofs.talk.Talk.read.Goals as goal
 
 pub returns-in_default-clause-goes : goal.returns-in_default-clause-goes
@@ -24,7 +24,7 @@ returns-in-Ok-feed_for-clause-goes g c =
     let room : length c.args.piece.now ≤ 4096 = c.requires.room.1 in
     let some : 0 < length piece = omega (arith, len, c.in-Ok.n-test.1) in
     let few : length piece ≤ 4096 = omega (arith, len, c.in-Ok.ensures.bound.0, long, room) in
-    λ now h' first u h p. piece_fed step first now u _ h h' was.session was.replies was.made was.most c.is_read.ensures p _ c.requires.fits.3 piece c.in-Ok.ensures.bytes.0 some few c.feed_for.new.self c.in-Ok-feed_for.ensures.ok
+    λ now h' first u h p. piece_fed step first now u _ h h' was.session was.replies was.made was.most c.is_read.ensures p _ c.requires.fits.3 piece c.in-Ok.ensures.bytes.0 some few c.feed_for.new.self (subst (λ s. c.feed_for.new.self ≡ record s { input = s.input ++ piece; rest = s.rest ++ piece }) c.lend.ensures c.in-Ok-feed_for.ensures.ok)
 
 pub returns-in-Interrupted-clause-goes : goal.returns-in-Interrupted-clause-goes
 returns-in-Interrupted-clause-goes g c =
@@ -41,3 +41,11 @@ returns-in_default-kind g c =
       waits = tt;
       most = refl;
     }
+
+pub returns-in-Ok-eq0-clause-goes : goal.returns-in-Ok-eq0-clause-goes
+returns-in-Ok-eq0-clause-goes g c =
+    let was = c.args.self.now in
+    let long : length c.read.new.buf ≡ length c.args.piece.now = c.read.auto.buf in
+    let room : 0 < length c.args.piece.now = c.requires.room.0 in
+    let some : 0 < length c.read.new.buf = omega (arith, long, room) in
+    λ now h' first u h p. ended_input g.N.Node.step first now u _ h h' was.session was.replies was.made was.most c.is_read.ensures p _ c.read.new.buf c.in-Ok-eq0.field-0 c.in-Ok-eq0.field-0-test c.in-Ok-eq0.ensures.bytes.0 (c.in-Ok-eq0.ensures.bytes.1 c.in-Ok-eq0.field-0-test some) c.rest.result c.rest.ensures

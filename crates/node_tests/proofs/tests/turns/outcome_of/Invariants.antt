@@ -1,6 +1,5 @@
-use Rattle.std.proofs.Common.{◌≡◌, length}
 use Rattle.node_session.specs.Courses.{Fits}
 use Rattle.node_tests.proofs.tests.turns.outcome_of.Given as goal
 
 abbrev pub invariant-loop : goal.invariant-loop
-invariant-loop l = (Fits l.course.stage l.course.talk) × (length l.piece ≡ 4096)
+invariant-loop l = Fits l.course.stage l.course.talk

@@ -37,4 +37,4 @@ returns g c =
           (subst (λ (x : g.row.I.Denot). Keeps (remaining x) (remaining c.ended.new.self)) parts.ensures.reader c.ended.ensures)
           (subst (λ (x : g.row.O.Denot). Keeps (contents x) (contents c.ended-2.new.self)) parts.ensures.writer c.ended-2.ensures) result by_most;
     } in
-    (p.first, sitting.node, ap (λ (n : Count). n.counted) p.unused, λ whole. c.give_back.ensures ∙ ap (both c.args.worker.now) (c.parts_of-share.ensures.share whole ∙ ap (λ (n : NodeOverGates). n.count.counted) parts.ensures.node), joins)
+    (p.first, sitting.node, ap (λ (n : Count). n.counted) p.unused, λ whole. rw (← c.worker.view_is) (c.give_back.ensures ∙ ap (both c.worker.inside.stock) (c.parts_of-share.ensures.share whole ∙ ap (λ (n : NodeOverGates). n.count.counted) parts.ensures.node)), joins)

@@ -1,0 +1,82 @@
+//! What a worker lends to each step of its sessions.
+
+ghost use Rattle.std.specs.Prelude.{◌≡◌, []};
+
+use crate::serving::MAX_READ_LEN;
+use pb_frame::{Framer, return_room};
+use std::alloc::Global;
+use std::mem;
+
+/// How much room is kept for requests, and how much for a reply, in bytes.
+const MOST_ROOM: usize = 65_520;
+
+/// What a worker lends to each step of its sessions: the bytes that a read comes into, room for requests that are still to be answered, and room for the
+/// frame of a reply.
+///
+/// A session takes room when it has read or replied something, and gives it back once all that was read is answered and sent: one that waits for its
+/// next request holds none. Once [`make_room`](Self::make_room) has made both, a request of up to 61,424 bytes and a reply of up to
+/// 65,520 take no memory for their frames: so they come and go in a node that has none left too. Longer ones take memory of their own.
+#[derive(Drop)]
+pub struct Scratch {
+    pub(crate) piece: [u8; MAX_READ_LEN],
+    pub(crate) requests: Vec<u8>,
+    reply: Vec<u8>,
+}
+
+impl Scratch {
+    /// With no room yet. It takes no memory.
+    pub fn new(alloc: Global) -> Scratch {
+        Scratch {
+            piece: [0; MAX_READ_LEN],
+            requests: Vec::new(alloc),
+            reply: Vec::new(alloc),
+        }
+    }
+
+    /// Makes what isn't there of its room, where there is memory for it. Whether all is there then.
+    pub fn make_room(&mut self) -> bool {
+        self.requests.clear();
+        self.reply.clear();
+        self.requests.reserve_exact(MOST_ROOM).is_ok()
+            && self.reply.reserve_exact(MOST_ROOM).is_ok()
+    }
+
+    /// Takes the room for requests back where nothing is to be answered.
+    #[inline(always)]
+    pub(crate) fn take_requests(&mut self, framer: &mut Framer)
+        ensures { framer.new ≡ framer.old }
+    {
+        framer.give_back(&mut self.requests, MOST_ROOM);
+    }
+
+    /// Lends room for a reply's frame to a buffer that has too little for so many bytes.
+    #[inline(always)]
+    pub(crate) fn lend_reply(&mut self, bytes: &mut Vec<u8>, wanted: usize)
+        requires { bytes.old.items ≡ [] }
+        ensures { bytes.new.items ≡ [] }
+    {
+        if bytes.capacity() < wanted && wanted <= self.reply.capacity() {
+            self.reply.clear();
+            mem::swap(bytes, &mut self.reply);
+        }
+    }
+
+    /// Takes the room for a reply back out of a buffer, which is emptied and keeps no memory.
+    #[inline(always)]
+    pub(crate) fn take_reply(&mut self, bytes: &mut Vec<u8>)
+        ensures { bytes.new.items ≡ [] }
+    {
+        return_room(bytes, &mut self.reply, MOST_ROOM);
+        if bytes.capacity() > 0 {
+            bytes.shrink_to_fit();
+        }
+    }
+
+    /// Takes back the room of a session that is over.
+    pub(crate) fn take_all(&mut self, framer: Framer, frame: Vec<u8>) {
+        let mut requests = framer.into_room();
+        return_room(&mut requests, &mut self.requests, MOST_ROOM);
+        let mut reply = frame;
+        return_room(&mut reply, &mut self.reply, MOST_ROOM);
+    }
+}
