@@ -61,8 +61,8 @@ def put(key, value, context=b"", bucket=b"b", more=b""):
     return frame(PUT_CODE, field(1, bucket) + field(2, key) + seen + field(4, field(1, value)) + more)
 
 
-def delete(key, context=b"", bucket=b"b"):
-    return frame(DELETE_CODE, field(1, bucket) + field(2, key) + (field(4, context) if context else b""))
+def delete(key, context=b"", bucket=b"b", more=b""):
+    return frame(DELETE_CODE, field(1, bucket) + field(2, key) + (field(4, context) if context else b"") + more)
 
 
 def shown(values):
@@ -84,6 +84,13 @@ def dots(reply):
     """The entries of the context at the end of a get's reply, which has one of a single actor: vnode, epoch and counter."""
     check(len(reply) > CONTEXT_LENGTH and reply[-CONTEXT_LENGTH] == CONTEXT_VERSION, "no context in", reply)
     return struct.unpack(">QIQ", reply[1 - CONTEXT_LENGTH :])
+
+
+def resident(pid):
+    """How many KiB a process holds. The sum of its maps is exact, where that of its status is not."""
+    folder = f"/proc/{pid}"
+    with open(f"{folder}/smaps_rollup" if os.path.exists(f"{folder}/smaps_rollup") else f"{folder}/status") as lines:
+        return next(int(line.split()[1]) for line in lines if line.startswith(("Rss:", "VmRSS:")))
 
 
 class Node:
@@ -109,10 +116,8 @@ class Node:
         return client
 
     def memory(self):
-        """How many KiB it holds. The sum of its maps is exact, where that of its status is not."""
-        folder = f"/proc/{self.process.pid}"
-        with open(f"{folder}/smaps_rollup" if os.path.exists(f"{folder}/smaps_rollup") else f"{folder}/status") as lines:
-            return next(int(line.split()[1]) for line in lines if line.startswith(("Rss:", "VmRSS:")))
+        """How many KiB it holds."""
+        return resident(self.process.pid)
 
     def ended(self):
         """The status and the line of totals, once it has ended by itself."""
@@ -210,8 +215,8 @@ def run_cases(cases):
 
 def program_to_try():
     """The program that the script was given, or the one that was proved and built here; without it the script ends with 1."""
-    here = os.path.dirname(os.path.realpath(sys.argv[0]))
-    program = os.path.realpath(sys.argv[1] if len(sys.argv) > 1 else f"{here}/../crates/riak_node/out/riak_node")
+    here = os.path.dirname(os.path.realpath(__file__))
+    program = os.path.realpath(sys.argv[1] if len(sys.argv) > 1 else f"{here}/../../crates/riak_node/out/riak_node")
     if len(sys.argv) > 2 or not os.path.isfile(program) or not os.access(program, os.X_OK):
         script = os.path.basename(sys.argv[0])
         sys.exit(f"{script}: {program} is no program: rt ci leaves the node there, and so does scripts/try-client" if len(sys.argv) < 3 else f"{script} [PROGRAM]")
