@@ -2,33 +2,17 @@
 
 import os
 import struct
-import subprocess
 import sys
-import threading
-import time
+
+sys.path.append(f"{sys.path[0]}/..")
+from asking import Node
+from trying import PING, field, frame, varint
 
 MOST = int(os.environ.get("MOST", "1048576"))
 MANY = int(os.environ.get("MANY", "2000"))
 ROUNDS = int(os.environ.get("ROUNDS", "5"))
-CHUNK = 1 << 16
-PING, GET, PUT, DELETE = 1, 9, 11, 13
+GET, PUT, DELETE = 9, 11, 13
 PUT_DONE, DELETE_DONE, FOUND, FAILED = 12, 14, 10, 0
-
-
-def frame(code, body):
-    return struct.pack(">IB", len(body) + 1, code) + body
-
-
-def varint(n):
-    out = b""
-    while n > 127:
-        out += bytes([n & 127 | 128])
-        n >>= 7
-    return out + bytes([n])
-
-
-def field(number, content):
-    return varint(number << 3 | 2) + varint(len(content)) + content
 
 
 def names(key):
@@ -76,49 +60,6 @@ def context_in(body):
     raise RuntimeError("no context")
 
 
-class Node:
-    """A running `pipe`, whose input is fed by a thread and whose replies are read beside it."""
-
-    def __init__(self, program):
-        self.run = subprocess.Popen([program, "pipe", "--ring", "1"], stdin=subprocess.PIPE, stdout=subprocess.PIPE)
-        self.ask([frame(PING, b"")])
-
-    def processor(self):
-        """Nanoseconds that it has run on a processor."""
-        with open(f"/proc/{self.run.pid}/schedstat") as file:
-            return int(file.read().split()[0])
-
-    def peak(self):
-        """Peak resident bytes."""
-        with open(f"/proc/{self.run.pid}/status") as file:
-            return next(int(line.split()[1]) * 1024 for line in file if line.startswith("VmHWM:"))
-
-    def read_reply(self):
-        header = self.run.stdout.read(5)
-        assert len(header) == 5, "the node ended"
-        length, code = struct.unpack(">IB", header)
-        return code, self.run.stdout.read(length - 1)
-
-    def feed(self, requests):
-        data = b"".join(requests)
-        for at in range(0, len(data), CHUNK):
-            self.run.stdin.write(data[at : at + CHUNK])
-        self.run.stdin.flush()
-
-    def ask(self, requests, wait=0.0):
-        """The replies; where it is to wait, none is read before so many seconds have passed."""
-        feeder = threading.Thread(target=self.feed, args=(requests,))
-        feeder.start()
-        time.sleep(wait)
-        replies = [self.read_reply() for _ in requests]
-        feeder.join()
-        return replies
-
-    def end(self):
-        self.run.stdin.close()
-        assert self.run.wait() == 0
-
-
 class Case:
     """What is asked of a new node: first what makes it ready, then what is measured, of which each reply has one code."""
 
@@ -130,15 +71,16 @@ class Whole(Case):
     """Requests that count as one."""
 
 
-def measure(program, case):
+def measure(case):
     """Microseconds and peak bytes of a request of the case, beyond those of the node that is ready for it."""
-    node = Node(program)
+    node = Node()
+    node.replies([PING])
     if case.ready:
-        for code, body in node.ask(case.ready):
+        for code, body in node.replies(case.ready):
             assert code != FAILED, body
     requests = case.made(node) if case.made else case.requests
     memory, spent = node.peak(), node.processor()
-    replies = node.ask(requests, case.wait)
+    replies = node.replies(requests, case.wait)
     spent, memory = node.processor() - spent, node.peak() - memory
     for code, body in replies:
         assert code == case.code, (code, body[:80])
@@ -153,7 +95,7 @@ def forged(width, count):
 
 def width_of(node):
     """How many bytes a pair of a context has, as the node's own contexts show."""
-    replies = node.ask([put(99_999, plain(10)), get(99_999)])
+    replies = node.replies([put(99_999, plain(10)), get(99_999)])
     return len(context_in(replies[1][1])) - 1
 
 
@@ -166,7 +108,7 @@ def counted(context, width, count):
 def wide_clock(node, key):
     """Makes a key whose clock knows 64 actors, and gives its context."""
     width = width_of(node)
-    replies = node.ask([put(key, plain(100), forged(width, 63)), get(key)])
+    replies = node.replies([put(key, plain(100), forged(width, 63)), get(key)])
     assert replies[0][0] == PUT_DONE, replies[0]
     context = context_in(replies[1][1])
     assert len(context) == 1 + 64 * width
@@ -184,7 +126,7 @@ def stream_of_wide_puts(count):
 def stream_of_plain_puts(count):
     def made(node):
         width = width_of(node)
-        context = context_in(node.ask([put(1, plain(100)), get(1)])[1][1])
+        context = context_in(node.replies([put(1, plain(100)), get(1)])[1][1])
         # As many bytes in all: 63 pairs more in the value.
         return [put(1, plain(101 + 63 * width), seen) for seen in counted(context, width, count)]
 
@@ -198,7 +140,7 @@ def deletes(count, is_wide):
             if is_wide:
                 context = wide_clock(node, key)[1]
             else:
-                context = context_in(node.ask([put(key, plain(100)), get(key)])[1][1])
+                context = context_in(node.replies([put(key, plain(100)), get(key)])[1][1])
             asks.append(delete(key, context))
         return asks
 
@@ -217,19 +159,28 @@ def wide_gets(count):
     return made
 
 
+def room():
+    """How many bytes a content may have that fills a frame."""
+    return MOST - len(names(0)) - 7
+
+
+def long_contents():
+    """What fills a frame, by what it is made of."""
+    return {
+        "empty links": b"\x0a\x00" + b"\x32\x00" * ((room() - 2) // 2),
+        "empty pairs": b"\x0a\x00" + b"\x4a\x02\x0a\x00" * ((room() - 2) // 4),
+        "one field again and again": b"\x0a\x00" * (room() // 2),
+    }
+
+
 def rows():
     """The rows of the table: what, the worst case, and the plain one of the same bytes."""
-    names_of = len(names(0)) + 6
-    room = MOST - names_of - 1
-    links = b"\x0a\x00" + b"\x32\x00" * ((room - 2) // 2)
-    pairs = b"\x0a\x00" + b"\x4a\x02\x0a\x00" * ((room - 2) // 4)
-    again = b"\x0a\x00" * (room // 2)
     keys = range(4)
-    for what, content in (("put of empty links", links), ("put of empty pairs", pairs), ("put of one field again and again", again)):
+    for what, content in long_contents().items():
         same = plain(len(content))
-        yield what, Case([put(key, content) for key in keys], PUT_DONE), Case([put(key, same) for key in keys], PUT_DONE)
+        yield f"put of {what}", Case([put(key, content) for key in keys], PUT_DONE), Case([put(key, same) for key in keys], PUT_DONE)
         yield (
-            what.replace("put", "get"),
+            f"get of {what}",
             Case(gets_of(4, 0), FOUND, [put(0, content)]),
             Case(gets_of(4, 0), FOUND, [put(0, same)]),
         )
@@ -240,9 +191,10 @@ def rows():
     yield "get of 64 siblings, unread", Case(gets_of(1, 1), FOUND, large, wait=0.5), Case(gets_of(1, 1), FOUND, whole)
     yield "put by a context of 64", Case(None, PUT_DONE, made=stream_of_wide_puts(MANY)), Case(None, PUT_DONE, made=stream_of_plain_puts(MANY))
     yield "get of a context of 64", Case(None, FOUND, made=wide_gets(MANY)), Case(gets_of(MANY, 1), FOUND, [put(1, plain(1_108))])
-    yield "delete by a context of 64", Case(None, DELETE_DONE, made=deletes(MANY // 10, True)), Case(None, DELETE_DONE, made=deletes(MANY // 10, False))
-    block = plain(room)
-    yield "a frame's bytes of pings", Whole([frame(PING, b"")] * (MOST // 5), 2), Whole([put(0, block)], PUT_DONE)
+    few = MANY // 10
+    yield "delete by a context of 64", Case(None, DELETE_DONE, made=deletes(few, True)), Case(None, DELETE_DONE, made=deletes(few, False))
+    block = plain(room())
+    yield "a frame's bytes of pings", Whole([PING] * (MOST // 5), 2), Whole([put(0, block)], PUT_DONE)
     yield "a frame's bytes of small gets", Whole([get(0)] * (MOST // len(get(0))), FOUND), Whole([put(0, block)], PUT_DONE)
 
 
@@ -252,12 +204,11 @@ def share(case, spent, memory):
 
 
 def main():
-    program = sys.argv[1]
     print(f"{'':34} {'us':>10} {'plain us':>10} {'times':>7} {'peak KiB':>10} {'plain KiB':>10} {'times':>7}")
     for what, worst, plainly in rows():
         got = []
         for case in (worst, plainly):
-            found = [share(case, *measure(program, case)) for _ in range(ROUNDS)]
+            found = [share(case, *measure(case)) for _ in range(ROUNDS)]
             got.append([sorted(part)[ROUNDS // 2] for part in zip(*found)])
         (spent, memory), (plain_spent, plain_memory) = got
         times = f"{memory / plain_memory:>7.1f}" if plain_memory >= 1024 else f"{'-':>7}"
@@ -268,4 +219,5 @@ def main():
         )
 
 
-main()
+if __name__ == "__main__":
+    main()

@@ -1,175 +1,115 @@
 """Time and memory of `riak_node pipe` by the number of its keys. See README.md."""
-
 import os
-import signal
-import struct
-import subprocess
 import sys
-import tempfile
-import threading
-import time
+from statistics import median
+
+sys.path.append(f"{sys.path[0]}/..")
+from asking import PIPE, Node, instructions_each, shuffled
+from blocks import CountedNode
+from trying import STORED, get, put
 
 MANY_BUCKETS = 10_000
 VALUE = bytes(range(100))
-PUT_REPLY = b"\0\0\0\1\x0c"
-CHUNK = 500
-LEAST_REQUESTS = 200_000
-
-
-def frame(code, body):
-    return struct.pack(">IB", len(body) + 1, code) + body
+LEAST_REQUESTS, ROUNDS = 50_000, 3
+# Where instructions are counted: how many keys there are at most, and how many requests are counted.
+MOST_COUNTED, COUNTED = 100_000, 500
 
 
 def names(key, buckets=1):
-    """The fields of a key's names: its bucket has five bytes, the key thirteen."""
-    bucket = b"users" if buckets == 1 else b"u%04d" % (key % buckets)
-    return b"\x0a\x05" + bucket + b"\x12\x0d" + b"user-%08d" % key
+    """A key of thirteen bytes, and its bucket of five."""
+    return {"key": b"user-%08d" % key, "bucket": b"users" if buckets == 1 else b"u%04d" % (key % buckets)}
 
 
-def put(key, buckets=1):
-    return frame(11, names(key, buckets) + b"\x22\x66\x0a\x64" + VALUE)
+def puts(order, buckets=1):
+    return [put(value=VALUE, **names(key, buckets)) for key in order]
 
 
-def get(key, buckets=1):
-    return frame(9, names(key, buckets))
+def gets(order, buckets=1):
+    return [get(**names(key, buckets)) for key in order]
 
 
-def scattered(keys):
-    """Each key once, in an order that is not the keys' own; 7,919 divides no number of keys here."""
-    return [i * 7919 % keys for i in range(keys)]
+def strided(keys):
+    """The numbers of these keys by strides: each key's neighbours are asked for soon before or after it. 7,919 divides no number of keys here."""
+    return [i * 7919 % len(keys) for i in keys]
 
 
-class Node:
-    """A running `pipe`, whose input is fed by a thread and whose replies are read beside it."""
-
-    def __init__(self, program, **environment):
-        self.run = subprocess.Popen(
-            [program, "pipe", "--ring", "1"],
-            stdin=subprocess.PIPE,
-            stdout=subprocess.PIPE,
-            env={**os.environ, **environment},
-        )
-
-    def processor(self):
-        """Nanoseconds that it has run on a processor."""
-        with open(f"/proc/{self.run.pid}/schedstat") as file:
-            return int(file.read().split()[0])
-
-    def peak(self):
-        """Peak resident bytes."""
-        with open(f"/proc/{self.run.pid}/status") as file:
-            for line in file:
-                if line.startswith("VmHWM:"):
-                    return int(line.split()[1]) * 1024
-        raise RuntimeError("no VmHWM")
-
-    def read_frame(self):
-        header = self.run.stdout.read(4)
-        return header + self.run.stdout.read(struct.unpack(">I", header)[0])
-
-    def ask(self, requests, reply=None):
-        """Nanoseconds of the node for the requests, each of which gets a reply of one length: this one, or the first."""
-        chunks = [b"".join(requests[i : i + CHUNK]) for i in range(0, len(requests), CHUNK)]
-        before = self.processor()
-        feeder = threading.Thread(target=self.feed, args=(chunks,))
-        feeder.start()
-        first = self.read_frame()
-        left = len(first) * (len(requests) - 1)
-        if reply is not None:
-            assert first == reply, first
-        most = len(first) * ((1 << 16) // len(first))
-        while left:
-            got = self.run.stdout.read(min(left, most))
-            assert got, "the node ended"
-            assert reply is None or got == reply * (len(got) // len(reply)), "a refusal"
-            left -= len(got)
-        feeder.join()
-        return self.processor() - before, first
-
-    def feed(self, chunks):
-        for chunk in chunks:
-            self.run.stdin.write(chunk)
-        self.run.stdin.flush()
-
-    def end(self):
-        self.run.stdin.close()
-        assert self.run.wait() == 0
-
-
-def time_of(program, keys):
-    """Microseconds of the node for a put of a new key and for a get, of so many keys."""
-    puts, gets = [], []
-    for _ in range(max(1, LEAST_REQUESTS // keys)):
-        node = Node(program)
-        order = scattered(keys)
-        took, _ = node.ask([put(key) for key in order], PUT_REPLY)
-        puts.append(took / keys / 1000)
-        took, reply = node.ask([get(key) for key in reversed(order)])
-        assert VALUE in reply
-        gets.append(took / keys / 1000)
-        node.end()
-    return sorted(puts)[len(puts) // 2], sorted(gets)[len(gets) // 2]
-
-
-def show_times(program, most):
-    print(f"{'keys':>9} {'put us':>8} {'get us':>8} {'10 times the keys: both':>24} {'puts':>6} {'gets':>6}")
-    before, keys = None, 1000
-    while keys <= most:
-        now = time_of(program, keys)
-        line = f"{keys:>9} {now[0]:>8.2f} {now[1]:>8.2f}"
-        if before:
-            both = sum(now) / sum(before)
-            line += f" {10 * both:>24.1f} {10 * now[0] / before[0]:>6.1f} {10 * now[1] / before[1]:>6.1f}"
-        print(line, flush=True)
-        before, keys = now, keys * 10
-
-
-def show_memory(program, keys, buckets):
-    empty = Node(program)
-    empty.ask([get(0)])
-    base = empty.peak()
-    empty.end()
-    node = Node(program)
-    order = scattered(keys)
-    puts, _ = node.ask([put(key, buckets) for key in order], PUT_REPLY)
-    each = (node.peak() - base) / keys
-    gets, reply = node.ask([get(key, buckets) for key in reversed(order)])
+def cost_of(keys, buckets=1, ordered=strided):
+    """What one of so many keys costs: microseconds of the node for a put of a new key and for a get, and bytes at the peak."""
+    node = Node()
+    node.ask(gets([0]))
+    base = node.peak()
+    order = ordered(range(keys))
+    put_time, _ = node.ask(puts(order, buckets), STORED)
+    memory = node.peak() - base
+    get_time, reply = node.ask(gets(order[::-1], buckets))
     assert VALUE in reply
     node.end()
+    return put_time / keys / 1000, get_time / keys / 1000, memory / keys
+
+
+def medians(costs):
+    return [median(part) for part in zip(*costs)]
+
+
+def show_growth(sizes, ordered):
+    """The cost of a key in nodes of these sizes, which come in turn in each round."""
+    rounds = [
+        [medians([cost_of(keys, ordered=ordered) for _ in range(max(1, LEAST_REQUESTS // keys))]) for keys in sizes] for _ in range(ROUNDS)
+    ]
+    print(f"{ordered.__name__ + ':':<36} 10 times the keys, in times")
+    print(f"{'keys':>9} {'put us':>8} {'get us':>8} {'bytes':>8} {'puts':>6} {'gets':>6} {'memory':>7}")
+    for at, keys in enumerate(sizes):
+        put_time, get_time, memory = medians([costs[at] for costs in rounds])
+        line = f"{keys:>9} {put_time:>8.2f} {get_time:>8.2f} {memory:>8.0f}"
+        if at:
+            times = medians([[10 * now / before for now, before in zip(costs[at], costs[at - 1])] for costs in rounds])
+            line += f" {times[0]:>6.1f} {times[1]:>6.1f} {times[2]:>7.1f}"
+        print(line, flush=True)
+
+
+def show_instructions(sizes):
+    """Those of a put of a new key and of a get among so many keys, which came in a random order."""
+    print("instructions:                        10 times the keys, in times")
+    print(f"{'keys':>9} {'put':>8} {'get':>8} {'':>8} {'puts':>6} {'gets':>6}")
+    before = None
+    for keys in sizes:
+        order = shuffled(range(2 * keys))
+        held = puts(order[:keys])
+        now = [instructions_each(PIPE, lambda count: held + some[:count], 0, COUNTED)[0] for some in (puts(order[keys:]), gets(order))]
+        times = "".join(f" {10 * count / due:>6.1f}" for count, due in zip(now, before)) if before else ""
+        print(f"{keys:>9} {now[0]:>8.0f} {now[1]:>8.0f} {'':>8}{times}", flush=True)
+        before = now
+
+
+def show_memory(keys, buckets):
+    put_time, get_time, memory = cost_of(keys, buckets)
     print(
-        f"{keys} keys in {buckets} bucket{'s' * (buckets > 1)}: {each:.0f} bytes a key at the peak, "
-        f"{each - len(VALUE):.0f} beside its value; put {puts / keys / 1000:.2f} us, get {gets / keys / 1000:.2f} us"
+        f"{keys} keys in {buckets} bucket{'s' * (buckets > 1)}: {memory:.0f} bytes a key at the peak, "
+        f"{memory - len(VALUE):.0f} beside its value; put {put_time:.2f} us, get {get_time:.2f} us"
     )
 
 
-def show_parts(program, keys, library):
+def show_parts(keys):
     """What the node holds of the C library's allocator, a line for each size of block that counts."""
-    with tempfile.TemporaryDirectory() as folder:
-        told = f"{folder}/blocks"
-        node = Node(program, LD_PRELOAD=library, LIVE_BLOCKS=told)
-        node.ask([put(key) for key in scattered(keys)], PUT_REPLY)
-        node.run.send_signal(signal.SIGUSR1)
-        for _ in range(1000):
-            time.sleep(0.01)
-            if os.path.exists(told) and open(told).read().endswith("end\n"):
-                break
-        lines = [line.split() for line in open(told).read().splitlines()[:-1]]
-        node.end()
+    node = CountedNode()
+    node.ask(puts(strided(range(keys))), STORED)
     print(f"{'block':>7} {'a key':>8} {'bytes a key':>12}")
-    for size, count in lines:
-        share = int(count) / keys if size != "large" else 0
-        held = int(count) / keys * (int(size) if size != "large" else 1)
-        if held >= 0.5:
-            print(f"{size:>7} {share:>8.3f} {held:>12.1f}")
+    for size, count, held in node.blocks():
+        if held / keys >= 0.5:
+            print(f"{size:>7} {count / keys:>8.3f} {held / keys:>12.1f}")
+    node.end()
 
 
 def main():
-    program, library = sys.argv[1:3]
     keys = int(os.environ.get("KEYS", "100000"))
-    show_memory(program, keys, 1)
-    show_memory(program, keys, MANY_BUCKETS)
-    show_parts(program, keys, library)
-    show_times(program, int(os.environ.get("MOST", "1000000")))
+    show_memory(keys, 1)
+    show_memory(keys, MANY_BUCKETS)
+    show_parts(keys)
+    most = int(os.environ.get("MOST", "1000000"))
+    sizes = [10**digits for digits in range(3, 10) if 10**digits <= most]
+    show_instructions([keys for keys in sizes if keys <= MOST_COUNTED])
+    for ordered in strided, shuffled:
+        show_growth(sizes, ordered)
 
 
 main()
