@@ -16,11 +16,21 @@ const MOST_ROOM: usize = 65_520;
 /// A session takes room when it has read or replied something, and gives it back once all that was read is answered and sent: one that waits for its
 /// next request holds none. Once [`make_room`](Self::make_room) has made both, a request of up to 61,424 bytes and a reply of up to
 /// 65,520 take no memory for their frames: so they come and go in a node that has none left too. Longer ones take memory of their own.
-#[derive(Drop)]
 pub struct Scratch {
     pub(crate) piece: [u8; MAX_READ_LEN],
     pub(crate) requests: Vec<u8>,
     reply: Vec<u8>,
+}
+
+/// One call at each place where one is let go.
+impl Drop for Scratch {
+    fn drop(self) {
+        let Scratch {
+            piece: _piece,
+            requests: _requests,
+            reply: _reply,
+        } = self;
+    }
 }
 
 impl Scratch {

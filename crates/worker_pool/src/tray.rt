@@ -12,11 +12,21 @@ use std::sync::ledger::Ledger;
 /// worker's, where it has them.
 ///
 /// Contracts see what the shares that came back have counted.
-#[derive(Drop)]
 pub struct Tray<G: Ledger, P: Ledger, D: Ledger, E: Ledger, R: Ledger> {
     stock: Stock<G, P, D, E, R>,
     pub(crate) scratch: Scratch,
     pub(crate) place: usize,
+}
+
+/// One call at each place where one is let go.
+impl<G: Ledger, P: Ledger, D: Ledger, E: Ledger, R: Ledger> Drop for Tray<G, P, D, E, R> {
+    fn drop(self) {
+        let Tray {
+            stock: _stock,
+            scratch: _scratch,
+            place: _place,
+        } = self;
+    }
 }
 
 impl<G: Ledger, P: Ledger, D: Ledger, E: Ledger, R: Ledger> Model for Tray<G, P, D, E, R> {
