@@ -1,4 +1,4 @@
-"""What the benchmarks share that ask `riak_node pipe`: the node with its time and memory, contexts, and counts of instructions."""
+"""What the benchmarks share: frames (most of scripts/maintain/trying.py) and contexts, a `pipe` with its time and memory, and counts of instructions."""
 import os
 import random
 import re
@@ -9,7 +9,7 @@ import threading
 import time
 
 sys.path.append(f"{os.path.dirname(os.path.realpath(__file__))}/../scripts/maintain")
-from trying import CONTEXT_VERSION, PROGRAM, resident
+from trying import CONTEXT_VERSION, PROGRAM, PUT_CODE, field, frame, resident
 
 # How many requests are written at once, and how many bytes of replies are read at once.
 CHUNK, PIECE = 500, 1 << 16
@@ -20,6 +20,11 @@ PIPE = [PROGRAM, "pipe", "--ring", "1"]
 def context(epoch, counter, vnode=FIRST_VNODE):
     """A context of one actor. On a ring of one a key's actor has the number of its first put for its epoch."""
     return struct.pack(">BQIQ", CONTEXT_VERSION, vnode, epoch, counter)
+
+
+def put_content(key, content, seen=b"", bucket=b"b"):
+    """A put of a content as its fields, of whatever it is made."""
+    return frame(PUT_CODE, field(1, bucket) + field(2, key) + (field(3, seen) if seen else b"") + field(4, content))
 
 
 def shuffled(keys):

@@ -5,22 +5,25 @@ import struct
 import sys
 
 sys.path.append(f"{sys.path[0]}/..")
-from asking import Node
-from trying import PING, field, frame, varint
+from asking import Node, put_content
+from trying import DELETED_CODE as DELETE_DONE
+from trying import ERROR, PING, field, varint
+from trying import GOT as FOUND
+from trying import STORED_CODE as PUT_DONE
+from trying import delete as delete_named
+from trying import get as get_named
 
 MOST = int(os.environ.get("MOST", "1048576"))
 MANY = int(os.environ.get("MANY", "2000"))
 ROUNDS = int(os.environ.get("ROUNDS", "5"))
-GET, PUT, DELETE = 9, 11, 13
-PUT_DONE, DELETE_DONE, FOUND, FAILED = 12, 14, 10, 0
 
 
-def names(key):
-    return field(1, b"b") + field(2, b"%05d" % key)
+def name(key):
+    return b"%05d" % key
 
 
-def put(key, content, context=None):
-    return frame(PUT, names(key) + (field(3, context) if context else b"") + field(4, content))
+def put(key, content, context=b""):
+    return put_content(name(key), content, context)
 
 
 def plain(length):
@@ -33,11 +36,11 @@ def plain(length):
 
 
 def get(key):
-    return frame(GET, names(key))
+    return get_named(name(key))
 
 
 def delete(key, context):
-    return frame(DELETE, names(key) + field(3, context))
+    return delete_named(name(key), context)
 
 
 def context_in(body):
@@ -77,7 +80,7 @@ def measure(case):
     node.replies([PING])
     if case.ready:
         for code, body in node.replies(case.ready):
-            assert code != FAILED, body
+            assert code != ERROR, body
     requests = case.made(node) if case.made else case.requests
     memory, spent = node.peak(), node.processor()
     replies = node.replies(requests, case.wait)
@@ -161,7 +164,7 @@ def wide_gets(count):
 
 def room():
     """How many bytes a content may have that fills a frame."""
-    return MOST - len(names(0)) - 7
+    return MOST - len(field(1, b"b") + field(2, name(0))) - 7
 
 
 def long_contents():

@@ -3,47 +3,43 @@ import subprocess
 import sys
 import time
 
-VNODE = 0x10000  # the id of vnode 0 in run 1
+sys.path.append(f"{sys.path[0]}/..")
+from asking import PROGRAM, context
+from trying import delete as delete_named
+from trying import get as get_named
+from trying import put as put_named
+
 CALLS = 4500
 TIMES = 4
 ROUNDS = 3
 
 
-def varint(number):
-    out = bytearray()
-    while number > 0x7F:
-        out.append(number & 0x7F | 0x80)
-        number >>= 7
-    out.append(number)
-    return bytes(out)
+def name(key):
+    return b"key%d" % key
 
 
-def field(number, content):
-    return varint(number << 3 | 2) + varint(len(content)) + content
-
-
-def names(key):
-    return field(1, b"b") + field(2, b"key%d" % key)
+def as_call(request):
+    """A request's code and body, without its length, as a line of a schedule has it."""
+    return request[4:]
 
 
 def get(key):
-    return b"\x09" + names(key)
+    return as_call(get_named(name(key)))
 
 
-def put(key, value, context=None):
-    return b"\x0b" + names(key) + (field(3, context) if context else b"") + field(4, field(1, value))
+def put(key, value, seen=b""):
+    return as_call(put_named(name(key), value, seen))
 
 
 def delete(key):
-    return b"\x0d" + names(key)
+    return as_call(delete_named(name(key)))
 
 
 def replacing(key, epoch, count):
     """The calls of a key's put of this number: one that nobody saw first, each other by what a get showed."""
     if count == 1:
         return [put(key, b"v")]
-    context = b"\x02" + VNODE.to_bytes(8, "big") + epoch.to_bytes(4, "big") + (count - 1).to_bytes(8, "big")
-    return [get(key), put(key, b"v", context)]
+    return [get(key), put(key, b"v", context(epoch, count - 1))]
 
 
 def one_key(calls):
@@ -84,12 +80,12 @@ def lines(calls):
     return "".join(line + "\n" for line in out).encode()
 
 
-def seconds(program, schedule):
+def seconds(schedule):
     """The seconds of the fastest of some rounds. The register that keeps every event has to agree."""
     fastest = None
     for _ in range(ROUNDS):
         began = time.perf_counter()
-        played = subprocess.run([program, "steps", "--workers", "1"], input=schedule, capture_output=True, check=True)
+        played = subprocess.run([PROGRAM, "steps", "--workers", "1"], input=schedule, capture_output=True, check=True)
         took = time.perf_counter() - began
         if played.stdout.splitlines()[-1] != b"plain equal":
             sys.exit("the schedule's last line is " + played.stdout.splitlines()[-1].decode())
@@ -99,8 +95,8 @@ def seconds(program, schedule):
 
 def main():
     for kind, calls in KINDS.items():
-        short = seconds(sys.argv[1], lines(calls(CALLS)))
-        long = seconds(sys.argv[1], lines(calls(TIMES * CALLS)))
+        short = seconds(lines(calls(CALLS)))
+        long = seconds(lines(calls(TIMES * CALLS)))
         print(f"{kind}: {CALLS} calls {short:.2f} s, {TIMES * CALLS} calls {long:.2f} s, {long / short:.1f} times", flush=True)
 
 
