@@ -1,5 +1,5 @@
 -- The dead keys of two indexes that are merged: those that stay, and the least of them.
-use Rattle.std.proofs.Common.{◌≡◌, ◌∙◌, refl, sym, ap, subst, List, [], ◌∷◌, ℕ, Bool, true, false, cond}
+use Rattle.std.proofs.Common.{◌≡◌, ◌∙◌, refl, sym, ap, List, ℕ, Bool, true, false, cond}
 use Rattle.std.specs.Prelude.{◌&&◌, ◌||◌, Option, Some, None, IfSome, IfNone, is_some}
 use Rattle.std.specs.Option.{option_or, option_map}
 use Rattle.std.specs.Borrow.{Bor}

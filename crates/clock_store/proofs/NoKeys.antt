@@ -10,7 +10,7 @@ use Rattle.riak_msgs.specs.KeyOrder.{key_cmp}
 use Rattle.clock_store.specs.declared.stored_clock.StoredClock.{StoredClock}
 use Rattle.clock_store.specs.Index.{Index, is_marked}
 use Rattle.clock_store.specs.Places.{Places, Clocks, place_of, IsTied}
-use Rattle.clock_store.specs.Maps.{is_dead, shown_at, IsMap, IsWholeMap}
+use Rattle.clock_store.specs.Maps.{is_dead, shown_at, IsWholeMap}
 
 some_none : {X A : Type 0} (x : X) (o : Option X) → o ≡ None → o ≡ Some x → A
 some_none x o is h = let no : None ≡ Some x = sym is ∙ h in cc

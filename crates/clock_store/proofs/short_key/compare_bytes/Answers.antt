@@ -1,6 +1,4 @@
 use Rattle.std.proofs.Common.{◌∙◌, sym, ap}
-use Rattle.std.specs.Ordering.{is_lt}
-use Rattle.std.specs.Prelude.{None}
 use Rattle.names.specs.ShortNames.{short_name}
 use Rattle.clock_store.proofs.ShortKeys.{longer_above}
 use Rattle.clock_store.proofs.short_key.compare_bytes.Goals as goal

@@ -1,4 +1,4 @@
-use Rattle.std.proofs.Common.{◌∙◌, refl, sym, ap}
+use Rattle.std.proofs.Common.{◌∙◌, sym, ap}
 use Rattle.std.specs.Prelude.{Some, None}
 use Rattle.std.specs.Ordering.{is_le}
 use Rattle.riak_msgs.specs.KeyOrder.{key_cmp}

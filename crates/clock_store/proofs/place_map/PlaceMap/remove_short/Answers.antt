@@ -1,4 +1,4 @@
-use Rattle.std.proofs.Common.{◌≡◌, ◌∙◌, ap, cond}
+use Rattle.std.proofs.Common.{◌∙◌, ap, cond}
 use Rattle.std.specs.Prelude.{None}
 use Rattle.std.specs.BTreeMap.{is_at}
 use Rattle.riak_msgs.specs.KeyOrder.{key_cmp}

@@ -1,5 +1,5 @@
 use Rattle.std.proofs.Common.{◌∙◌, sym, ap}
-use Rattle.std.specs.Prelude.{None, is_some}
+use Rattle.std.specs.Prelude.{is_some}
 use Rattle.vnode_machine.proofs.Keys.{key_cmp_total}
 use Rattle.names.proofs.Merged.{merged_sorted}
 use Rattle.clock_store.specs.Forgetting.{key_given}

@@ -1,4 +1,4 @@
-use Rattle.std.proofs.Common.{◌≡◌, ◌∙◌, sym, ap, true}
+use Rattle.std.proofs.Common.{◌≡◌, ◌∙◌, sym, true}
 use Rattle.std.specs.Prelude.{None}
 use Rattle.vnode_machine.proofs.Keys.{key_cmp_total}
 use Rattle.names.proofs.Merged.{apart_first, set_first, merged_sorted}
