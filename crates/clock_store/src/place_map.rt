@@ -25,11 +25,12 @@
 //! alone. A bucket has a tree of its own, of one node or more, and so has a bucket type: many buckets of one key each take
 //! more than one map of whole keys would.
 
-ghost use Rattle.std.specs.Prelude.{◌≡◌, [], OnOk, OnErr, Some, None, if◌then◌else◌};
+ghost use Rattle.std.specs.Prelude.{◌≡◌, [], OnOk, OnErr, Some, None, true, if◌then◌else◌};
 ghost use Rattle.std.specs.BTreeMap.{is_at};
 ghost use Rattle.std.specs.Option.{option_map};
 ghost use Rattle.riak_msgs.specs.declared.key.Key.{Key};
 ghost use Rattle.riak_msgs.specs.KeyOrder.{key_cmp};
+ghost use Rattle.names.specs.ShortNames.{is_short};
 ghost use Rattle.clock_store.specs.AssocList.{get, IsOrdered};
 ghost use Rattle.clock_store.specs.Behind.{next_entry};
 ghost use Rattle.clock_store.specs.KeyRefs.{key_found, key_after};
@@ -42,8 +43,10 @@ mod long_buckets;
 mod short_buckets;
 
 use crate::key_ref::{FoundKey, KeyRef};
+use crate::short_key::ShortKey;
 use behind::next_entry;
 use buckets::BucketPlaces;
+use names::ShortName;
 use riak_msgs::{BucketType, Key};
 use std::alloc::{AllocError, Global};
 use std::collections::BTreeMap;
@@ -211,5 +214,44 @@ impl PlaceMap {
                 place
             }
         }
+    }
+    /// Removes a key of a bucket type by its names of up to 15 bytes.
+    fn remove_names(
+        &mut self,
+        bucket_type: &BucketType,
+        bucket: &ShortName,
+        key: ShortName,
+    ) -> Option<usize>
+        requires bucket { is_short bucket.now ≡ true }
+        requires key { is_short key ≡ true }
+        ensures place { result ≡ get key_cmp self.old (key_of bucket_type.now (bucket.now, key)) }
+        ensures removed { (other : Key) → get key_cmp self.new other
+            ≡ (if is_at (key_cmp (key_of bucket_type.now (bucket.now, key))) other then None
+            else get key_cmp self.old other) }
+        ensures ordered { IsOrdered key_cmp self.new }
+    {
+        match self.types.get_mut(bucket_type) {
+            None => None,
+            Some(buckets) => {
+                let place = buckets.remove_names(bucket, key);
+                let is_empty = buckets.is_empty();
+                if is_empty {
+                    drop(self.types.remove(bucket_type));
+                }
+                place
+            }
+        }
+    }
+
+    /// The same as `remove` of a key with short names, where no whole key lies anywhere.
+    pub(crate) fn remove_short(&mut self, key: ShortKey) -> Option<usize>
+        ensures place { result ≡ get key_cmp self.old key }
+        ensures removed { (other : Key) → get key_cmp self.new other
+            ≡ (if is_at (key_cmp key) other then None else get key_cmp self.old other) }
+        ensures ordered { IsOrdered key_cmp self.new }
+    {
+        let bucket_type = BucketType::default_type();
+        let names = key.names();
+        self.remove_names(&bucket_type, &names.0, names.1)
     }
 }

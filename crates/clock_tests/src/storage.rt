@@ -6,6 +6,7 @@ ghost use Rattle.dvv_set.specs.Held.{IsWithin};
 ghost use Rattle.clock_store.specs.Keys.{clock_at};
 ghost use Rattle.clock_store.specs.Contents.{HasWriteRoom};
 
+mod dead;
 mod rows;
 mod syncs;
 

@@ -15,7 +15,8 @@ pub record Given (unread unread' : Option (List ℕ)) (reads : ℕ) (Serves : Li
   pub bound : length input ≤ max_read_len * reads
   pub serves : Serves input
 
--- so many reads were made, and each of them gave a byte at least or was interrupted
+-- so many reads were made, and each of them gave a byte at least or was interrupted; an interrupted read leaves no trace, so that
+-- `interrupted` may be any number, and this bounds nothing
 pub record MadeReads (unread unread' : Option (List ℕ)) (reads : ℕ) : Type 0 where
   pub input : List ℕ
   pub read : Consumes unread unread' input

@@ -45,7 +45,8 @@ pub fn serve<R: Read, W: Write, N: Node>(
         Stops N.step node.old node.new input
         (W.contents writer.old) (W.contents writer.new) fault)) }
 
-    // Too many reads are a fault only after all were made, each of which gave a byte at least or was interrupted. No clause sees how many were.
+    // Too many reads are a fault only after all were made, each of which gave a byte at least or was interrupted. No clause sees how many were
+    // interrupted, so this one bounds nothing.
     ensures too_many { IfErr result (λ fault. IsTooManyReads fault
         → MadeReads (R.remaining reader.old) (R.remaining reader.new) reads) }
 {

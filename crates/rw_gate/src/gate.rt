@@ -168,6 +168,9 @@ impl<S: Kept> Gate<S> {
     }
 
     /// One attempt to mark the state, so that no further reader comes in, and whether it did. Who reads stays.
+    ///
+    /// No clause speaks of the answer: a compare-exchange that was made and one that wasn't leave the same claim here, which has no
+    /// right, and what word the slot holds stands in no clause. `words` says which word is to follow, and when the exchange was made.
     pub fn mark(&self) -> bool {
         let word = self.slot.load();
         let Some(marked) = words::marked(word) else {
@@ -175,7 +178,7 @@ impl<S: Kept> Gate<S> {
         };
         let (found, claim) = self.slot.turn(word, marked);
         claim.done();
-        found == word
+        words::was_made(word, found)
     }
 
     /// One attempt to take the mark away, and whether it did.
@@ -186,7 +189,7 @@ impl<S: Kept> Gate<S> {
         };
         let (found, claim) = self.slot.turn(word, unmarked);
         claim.done();
-        found == word
+        words::was_made(word, found)
     }
 
     /// A few attempts to come in as a reader, between which other threads may run.

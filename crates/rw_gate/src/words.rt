@@ -1,5 +1,5 @@
 //! The steps that a gate makes on its slot's word, as functions from a word to the next.
-ghost use Rattle.std.specs.Prelude.{◌≡◌, ◌≢◌, false, IfSome, IfNone};
+ghost use Rattle.std.specs.Prelude.{◌≡◌, ◌≢◌, ◌==◌, false, IfSome, IfNone};
 ghost use Rattle.counted_slot.specs.Counting.{readers};
 ghost use Rattle.rw_gate.specs.Words.{admits_reader, admits_writer, slot_state};
 ghost use Rattle.rw_gate.specs.Words.{Enters, Marks, Unmarks};
@@ -51,4 +51,11 @@ pub(crate) fn admits_writer(word: u64) -> bool
     ensures { result ≡ admits_writer word }
 {
     (word % 4 == PRESENT || word % 4 == MARKED) && readers(word) == 0
+}
+
+/// Whether a compare-exchange was made: just where the word that it found is the one that it was to find.
+pub(crate) fn was_made(expected: u64, found: u64) -> bool
+    ensures { result ≡ (found == expected) }
+{
+    found == expected
 }

@@ -1,7 +1,8 @@
 //! The keys of one bucket type, with their places.
 
-ghost use Rattle.std.specs.Prelude.{◌≡◌, [], ◌∷◌, IfOk, OnOk, OnErr, Some, None, IsTrue, ◌↔◌, if◌then◌else◌};
+ghost use Rattle.std.specs.Prelude.{◌≡◌, [], ◌∷◌, IfOk, OnOk, OnErr, Some, None, IsTrue, true, ◌↔◌, if◌then◌else◌};
 ghost use Rattle.std.specs.BTreeMap.{is_at};
+ghost use Rattle.names.specs.ShortNames.{is_short};
 ghost use Rattle.clock_store.specs.AssocList.{get, IsOrdered};
 ghost use Rattle.std.specs.Option.{option_map};
 ghost use Rattle.clock_store.specs.Behind.{next_entry};
@@ -166,5 +167,17 @@ impl BucketPlaces {
             Some(name) => self.short.remove(&name, key),
             None => self.long.remove(bucket, key),
         }
+    }
+    /// The same of a key where the names of its bucket and of its own have up to 15 bytes.
+    pub(crate) fn remove_names(&mut self, bucket: &ShortName, key: ShortName) -> Option<usize>
+        requires bucket { is_short bucket.now ≡ true }
+        requires key { is_short key ≡ true }
+        ensures place { result ≡ get bucket_key_cmp self.old (bucket.now, key) }
+        ensures removed { (other : BucketKey) → get bucket_key_cmp self.new other
+            ≡ (if is_at (bucket_key_cmp (bucket.now, key)) other then None
+            else get bucket_key_cmp self.old other) }
+        ensures ordered { IsOrdered bucket_key_cmp self.new }
+    {
+        self.short.remove_name(bucket, key)
     }
 }

@@ -1,8 +1,9 @@
 //! The keys of one bucket, with their places.
 
-ghost use Rattle.std.specs.Prelude.{◌≡◌, ◌↔◌, [], ◌∷◌, IfOk, OnOk, OnErr, IsTrue, Some, None, if◌then◌else◌, ℕ, List, option_map};
+ghost use Rattle.std.specs.Prelude.{◌≡◌, ◌↔◌, [], ◌∷◌, IfOk, OnOk, OnErr, IsTrue, true, Some, None, if◌then◌else◌, ℕ, List, option_map};
 ghost use Rattle.std.specs.BTreeMap as tree;
 ghost use Rattle.std.specs.BTreeMap.{is_at};
+ghost use Rattle.names.specs.ShortNames.{is_short};
 ghost use Rattle.clock_store.specs.AssocList.{get, IsOrdered};
 ghost use Rattle.std.specs.Prelude.{take};
 ghost use Rattle.clock_store.specs.Behind.{next_entry, lower};
@@ -320,5 +321,16 @@ impl KeyPlaces {
             Some(name) => remove_short(&mut self.short, name),
             None => remove_long(&mut self.long, key),
         }
+    }
+    /// The same of a name of up to 15 bytes.
+    #[inline(always)]
+    pub(crate) fn remove_name(&mut self, name: ShortName) -> Option<usize>
+        requires { is_short name ≡ true }
+        ensures place { result ≡ get bytes_cmp self.old name }
+        ensures removed { (other : List ℕ) → get bytes_cmp self.new other
+            ≡ (if is_at (bytes_cmp name) other then None else get bytes_cmp self.old other) }
+        ensures ordered { IsOrdered bytes_cmp self.new }
+    {
+        remove_short(&mut self.short, name)
     }
 }

@@ -70,6 +70,7 @@ const ROWS: &[Row] = &[
                     Beside(Read, false),
                     Beside(Write, false),
                     Beside(Mark, false),
+                    Beside(Unmark, false),
                     Look(Shown::Sum(0)),
                     Ask(Add {
                         by: 5,

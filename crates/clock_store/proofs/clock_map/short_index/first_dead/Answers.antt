@@ -1,0 +1,16 @@
+use Rattle.std.proofs.Common.{◌∙◌, refl, sym, ap}
+use Rattle.std.specs.Prelude.{None}
+use Rattle.clock_store.specs.Forgetting.{key_given}
+use Rattle.clock_store.specs.Index.{first_marked}
+use Rattle.clock_store.proofs.Marks.{first_within}
+use Rattle.clock_store.proofs.clock_map.short_index.first_dead.Goals as goal
+
+pub returns-in-None : goal.returns-in-None
+returns-in-None c =
+    c.first_in.ensures ∙ ap (first_marked c.args.spare None) (c.range.ensures.between tt)
+    ∙ first_within c.args.spare _ None (λ k. refl) c.args.index.now.entries
+    ∙ ap (λ from. first_marked c.args.spare (key_given from) c.args.index.now.entries) (sym c.in-None.is)
+
+pub returns-in-Some : goal.returns-in-Some
+returns-in-Some c =
+    c.first_at.ensures ∙ ap (λ from. first_marked c.args.spare (key_given from) c.args.index.now.entries) (sym c.in-Some.is)
