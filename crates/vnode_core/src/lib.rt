@@ -6,9 +6,9 @@
 //! [`Vnode::finish`]. At every history that may have led to its state, each call answers as the sibling register does
 //! (`Registers` in `specs/Plans`).
 //!
-//! What a command comes to is the machine's outcome of it (`ask_outcome` in `specs/Plans`). A call that plans a command meets
+//! What a command comes to is the machine's outcome of it (`planned` in `specs/Plans`). A call that plans a command meets
 //! `Plans`, or refuses it as `Refuses` says; one that makes it meets `Steps`; and in each sound state (`IsSound` of
-//! `vnode_machine`) these are outcomes of the sibling register (`RegistersAsk`). Each [`Refusal`] has its number (`specs/Refusals`)
+//! `vnode_machine`) these are outcomes of the sibling register (`RegistersPlan`). Each [`Refusal`] has its number (`specs/Refusals`)
 //! and its error text.
 //!
 //! What is prepared is in the vnode's model, the whole command with its options and its context as given, and a
