@@ -4,5 +4,6 @@ mod counter;
 mod register;
 mod steps;
 mod threads;
+mod turns;
 mod vnode;
 mod waiting;
