@@ -1,6 +1,5 @@
 -- What a cache of partitions remembers: the partition of each key that it has.
 use Rattle.std.specs.Prelude.{◌≡◌, ℕ, take, drop}
-use Rattle.std.specs.List.{All}
 use Rattle.riak_msgs.specs.declared.key.Key.{Key}
 use Rattle.riak_msgs.specs.Requests.{default_key}
 use Rattle.ring_map.specs.Ring.{digest_of, index_of}
