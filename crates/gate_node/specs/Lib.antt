@@ -1,5 +1,6 @@
 pub mod Asked
 pub mod Gates
+pub mod PartitionCache
 pub mod Passes
 pub mod GateStep
 pub mod Legal

@@ -36,6 +36,7 @@
 //! let shared = Shared::new(alloc, ring, 1, 0, 100)?          the gates of run 1, each round a new vnode; no reaps, 100 reads a session
 //! let passes = Passes::new(alloc, &shared)?                  one pass for each gate, which has seen nothing
 //! GateNode::new(&rt, &shared, &book, share, passes, &Open)   a node of this thread; others may have nodes over the same gates
+//! node.with_reserve(&reserve).with_partitions(&cache)        the same node, with what its thread keeps for all its nodes
 //! node.answer(alloc, Request::Put(put))                      Reply::Put; the pass of the key's vnode has one event, its own; puts: 1
 //! node.parts()                                               the share, the passes, and whether the book was full
 //! tallies_of(&rt, alloc, &shared, &[passes])                 one tally for each gate; that of the key's vnode has one write
@@ -43,7 +44,9 @@
 //!
 //! What it costs: a request waits while another thread has its vnode's state in hand, and while another counts. What is
 //! answered lies between the taking and the giving back of a right, and so a get copies its reply while other readers may
-//! be in. Memory is taken by the vnode, by what a thread keeps back ([`Reserve`]), and by `Shared::new`, `Passes::new` and `tallies_of`. Where nothing is diverted a request looks at one
+//! be in. Memory is taken by the vnode, by what a thread keeps back ([`Reserve`]), by
+//! `PartitionCache::new`, and by `Shared::new`, `Passes::new` and `tallies_of`. The partition of a key costs its digest, or a look at what the thread
+//! remembers ([`PartitionCache`]), a tenth of that. Where nothing is diverted a request looks at one
 //! word more, whether its partition has a fallback, and a caller's passes have a place for the pass of each partition's fallback. After
 //! the end of a diversion a caller takes a right at the closed fallback once, and one at the primary to see that the copies are there,
 //! where it hadn't seen as many events; later requests compare two numbers and are answered as where nothing was diverted.
@@ -56,14 +59,17 @@
 mod diverted;
 mod fault;
 mod gated_vnode;
+mod kept;
 mod laws;
 mod merging;
 mod node;
+mod partition_cache;
 mod passes;
 mod replies;
 mod requests;
 mod reserve;
 mod shared;
+mod short_key;
 mod tallies;
 mod turnstile;
 
@@ -73,6 +79,7 @@ pub use laws::{
     replies_are_at_positions, sessions_count_their_replies, sessions_keep_their_gates,
 };
 pub use node::GateNode;
+pub use partition_cache::PartitionCache;
 pub use passes::{HasPasses, Passes};
 pub use reserve::Reserve;
 pub use shared::Shared;

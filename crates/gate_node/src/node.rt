@@ -1,7 +1,6 @@
 //! A node over the gates of a run.
 ghost use Rattle.std.specs.Prelude.{◌≡◌, ◌<◌, ◌^◌, Some, IfOk, IfErr, false, true, nat_le, slice_get};
 ghost use Rattle.handoff.specs.Partitions.{IsFallback};
-ghost use Rattle.node_session.specs.PlainNodes.{partition_of};
 ghost use Rattle.gate_node.specs.Asked.{Gets, GetsOpen, Changes, ChangesOpen};
 ghost use Rattle.gate_node.specs.GateStep.{AtIndex, AtClosed, LooksAtPrimary, AtIndexFrom};
 ghost use Rattle.gate_node.specs.GateStep.{AnswersError, AsksFallback, AtDiverted, AnswersAtPartition, events_seen};
@@ -9,12 +8,13 @@ ghost use Rattle.gate_node.specs.Passes.{ArePassesOf};
 
 use crate::diverted::{change_diverted, get_diverted};
 use crate::gated_vnode::{catch_up, change_and_reap, get_and_reap};
+use crate::partition_cache::PartitionCache;
 use crate::passes::{FallbackPass, Passes, make_places};
 use crate::reserve::Reserve;
 use crate::shared::Shared;
 use crate::turnstile::Turnstile;
 use handoff::Fallback;
-use riak_msgs::{GetAsk, Key, Reply, Text};
+use riak_msgs::{GetAsk, Reply, Text};
 use rw_gate::Pass;
 use stats_book::{Book, Quantity, ReplyCounter, Share};
 use std::alloc::Global;
@@ -57,6 +57,8 @@ pub struct GateNode<
     fallbacks: Vec<Option<FallbackPass>>,
     /// What the thread keeps back, if anything.
     pub(crate) reserve: Option<&'a Reserve>,
+    /// The partitions of the keys that the thread met, if it remembers them.
+    pub(crate) partitions: Option<&'a PartitionCache>,
 }
 
 impl<'a, W: Wait, T: Turnstile, G: Ledger, P: Ledger, D: Ledger, E: Ledger, R: Ledger> Model
@@ -116,15 +118,8 @@ impl<'a, W: Wait, T: Turnstile, G: Ledger, P: Ledger, D: Ledger, E: Ledger, R: L
             size,
             fallbacks,
             reserve: None,
+            partitions: None,
         }
-    }
-
-    /// This node with memory kept back for what doesn't make its vnodes grow. It takes no memory.
-    pub fn with_reserve(mut self, reserve: &'a Reserve) -> Self
-        ensures { result ≡ self.entry }
-    {
-        self.reserve = Some(reserve);
-        self
     }
 
     /// The share, with all that was counted, and the passes, for later nodes over the same book and the same gates; and whether there was no room
@@ -144,6 +139,7 @@ impl<'a, W: Wait, T: Turnstile, G: Ledger, P: Ledger, D: Ledger, E: Ledger, R: L
             size,
             fallbacks,
             reserve: _,
+            partitions: _,
         } = self;
         let (share, is_book_full) = counter.parts(rt);
         let passes = Passes {
@@ -152,15 +148,6 @@ impl<'a, W: Wait, T: Turnstile, G: Ledger, P: Ledger, D: Ledger, E: Ledger, R: L
             fallbacks,
         };
         (share, passes, is_book_full)
-    }
-
-    /// The index of the partition that a key lies in.
-    pub(crate) fn index(&self, key: &Key) -> usize
-        ensures index { result ≡ partition_of self.now.shared.index_bits key.now }
-        ensures below { result < 2 ^ self.now.shared.index_bits }
-    {
-        let shared = self.shared;
-        usize::from(shared.handoff.ring().index(key))
     }
 
     /// Answers a get at the primary of a partition.

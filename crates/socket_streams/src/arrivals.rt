@@ -4,7 +4,8 @@ ghost use Rattle.gate_node.specs.Passes.{ArePassesOf, AreUnused};
 ghost use Rattle.socket_streams.specs.Arriving.{ArrivalsView, IsSameSource, IsNewConnection};
 
 use crate::accept_fault::AcceptFault;
-use crate::halves::{ReplyHalf, RequestHalf, Socket, new_halves, new_socket};
+use crate::connection::Socket;
+use crate::halves::{ReplyHalf, RequestHalf, new_halves, new_socket};
 use crate::log_sink::log_refused;
 use crate::pause::PAUSE_MILLIS;
 use crate::spare::Spare;

@@ -62,6 +62,7 @@ fn note_events(slots: &mut Slots, events: &Events<Global>, now: u64, is_stopping
         let Token(slot) = event.token();
         if slot != WAKER {
             slots.note_move(slot, now);
+            slots.note_event(slot, event.is_read_closed() || event.is_error());
             if !is_stopping {
                 slots.set_patience(slot, Patience::Open);
             }
@@ -95,9 +96,19 @@ impl<'a, 's, X: Clock + Wait> SocketDesk<'a, 's, X> {
         }
     }
 
+    /// Notes a connection that was opened in a slot. False where memory for that is refused.
+    fn begin_slot(&mut self, slot: usize, reader: &RequestHalf) -> bool {
+        match reader.share_socket() {
+            Some(socket) => self
+                .slots
+                .begin(self.rt, &self.door, slot, socket, self.now),
+            None => false,
+        }
+    }
+
     /// Begins to watch a connection that was opened in a slot. Where it can't be watched, its next read meets the end.
     fn watch(&mut self, slot: usize, reader: &RequestHalf) {
-        if !self.slots.begin(self.rt, &self.door, slot, self.now) {
+        if !self.begin_slot(slot, reader) {
             self.unwatched = Some(slot);
             reader.shut_down();
             return;
@@ -138,7 +149,7 @@ impl<'a, 's, X: Clock + Wait> SocketDesk<'a, 's, X> {
         };
         if is_given_up {
             self.slots.set_patience(slot, Patience::Gone);
-            self.slots.mark_ready(slot);
+            self.slots.mark_asked(slot);
         }
     }
 
@@ -191,7 +202,7 @@ impl<'a, 's, X: Clock + Wait> SocketDesk<'a, 's, X> {
         for slot in 0..self.slots.len() {
             if self.slots.is_silent(slot, closes_before) {
                 self.slots.set_patience(slot, Patience::Asked);
-                self.slots.mark_ready(slot);
+                self.slots.mark_asked(slot);
             }
         }
     }
@@ -222,7 +233,7 @@ impl<'a, 's, X: Clock + Wait> SocketDesk<'a, 's, X> {
         }
         self.is_stopping = true;
         for slot in 0..self.slots.len() {
-            self.slots.mark_ready(slot);
+            self.slots.mark_asked(slot);
         }
     }
 }

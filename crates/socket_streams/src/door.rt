@@ -1,6 +1,6 @@
 //! What a worker shares with those who wake it, and with its sink.
 
-use crate::halves::Socket;
+use crate::connection::Socket;
 use crate::lingering::Lingering;
 use crate::slots::Slot;
 use job_pool::Bell;

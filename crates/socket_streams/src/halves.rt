@@ -2,6 +2,7 @@
 
 ghost use Rattle.std.specs.Prelude.{◌≤◌, length, IfOk};
 
+use crate::connection::{Connection, Socket};
 use pb_frame::shrink_empty;
 use std::alloc::Global;
 use std::io;
@@ -13,9 +14,6 @@ use worker_pool::{EndRead, EndWrite};
 
 /// How many bytes of replies are gathered at most before they are written to the socket.
 const MAX_GATHERED: usize = 8_192;
-
-/// The socket of a connection, which both of its halves have. It is closed when both have let go of it.
-pub(crate) type Socket = Arc<TcpStream, Global>;
 
 /// The half from which requests are read. A read that would have to wait returns `WouldBlock`. After the session's end it reads as at the
 /// end of its input.
@@ -46,7 +44,7 @@ impl RequestHalf {
     /// The descriptor of the socket, until that was taken.
     pub(crate) fn descriptor(&self) -> Option<RawFd> {
         match &self.socket {
-            Some(socket) => Some(socket.as_raw_fd()),
+            Some(socket) => Some(socket.stream().as_raw_fd()),
             None => None,
         }
     }
@@ -54,8 +52,17 @@ impl RequestHalf {
     /// Shuts the socket down, so that the session's next read meets the end.
     pub(crate) fn shut_down(&self) {
         if let Some(socket) = &self.socket {
+            socket.note_event(true);
             // Only a connection that its client has ended can't be shut down.
-            let _is_ended = socket.shutdown(Shutdown::Both).is_err();
+            let _is_ended = socket.stream().shutdown(Shutdown::Both).is_err();
+        }
+    }
+
+    /// The socket once more; None where it was taken.
+    pub(crate) fn share_socket(&self) -> Option<Socket> {
+        match &self.socket {
+            Some(socket) => Arc::try_clone(socket).ok(),
+            None => None,
         }
     }
 
@@ -70,13 +77,17 @@ impl Read for RequestHalf {
         if self.has_ended {
             return Ok(0);
         }
-        match &self.socket {
-            Some(socket) => {
-                let mut stream: &TcpStream = socket;
-                stream.read(buf)
-            }
-            None => Ok(0),
+        let Some(socket) = &self.socket else {
+            return Ok(0);
+        };
+        if socket.is_drained() {
+            return Err(ErrorKind::WouldBlock.into());
         }
+        let room = buf.len();
+        let mut stream = socket.stream();
+        let taken = stream.read(buf)?;
+        socket.note_read(taken, room);
+        Ok(taken)
     }
 }
 
@@ -93,7 +104,7 @@ impl ReplyHalf {
     {
         match &self.socket {
             Some(socket) => {
-                let mut stream: &TcpStream = socket;
+                let mut stream = socket.stream();
                 stream.write(buf)
             }
             None => Ok(0),
@@ -161,9 +172,9 @@ impl EndWrite for ReplyHalf {
 
 /// The socket of a stream; the stream, where memory is refused.
 pub(crate) fn new_socket(alloc: Global, stream: TcpStream) -> Result<Socket, TcpStream> {
-    match Arc::new(alloc, stream) {
+    match Arc::new(alloc, Connection::new(stream)) {
         Ok(socket) => Ok(socket),
-        Err(failed) => Err(failed.value),
+        Err(failed) => Err(failed.value.into_stream()),
     }
 }
 
@@ -173,8 +184,8 @@ pub(crate) fn new_halves(
     socket: Socket,
     peer: SocketAddr,
 ) -> io::Result<(RequestHalf, ReplyHalf)> {
-    socket.set_nonblocking(true)?;
-    socket.set_nodelay(true)?;
+    socket.stream().set_nonblocking(true)?;
+    socket.stream().set_nodelay(true)?;
     let theirs = Arc::try_clone(&socket)?;
     let reader = RequestHalf {
         socket: Some(socket),

@@ -12,8 +12,9 @@
 //! (`specs/Arriving`). [`LogSink`] was told just the ends that it was told. What comes over a socket, who is ready, whose turn it is, and
 //! what is logged, no clause says.
 //!
-//! What it costs: a connection takes a descriptor, its passes, and 40 bytes beside its session; its replies are gathered in up to
-//! 8,192 bytes until what was read is answered, and go out by one write. A worker takes no memory before all threads are started.
+//! What it costs: a connection takes a descriptor, its passes, and 72 bytes beside its session; its replies are gathered in up to
+//! 8,192 bytes until what was read is answered, and go out by one write; of a read that took less than it had room for the next needs no
+//! call of the system (`Connection`). A worker takes no memory before all threads are started.
 //!
 //! How it is built: the leading thread waits at the listener, and rings the bell of the worker that has the fewest connections. A worker
 //! waits with `mio` for its sockets and its bell ([`SocketDesk`]), and gives each connection that is ready a turn. Where nobody waits for a client any more
@@ -22,6 +23,7 @@
 
 mod accept_fault;
 mod arrivals;
+mod connection;
 mod desk;
 mod door;
 mod halves;

@@ -1,11 +1,11 @@
 //! Sockets of connections that have ended while their clients may still be sending.
 
-use crate::halves::Socket;
+use crate::connection::Socket;
 use crate::worker_clock::WorkerClock;
 use node_session::MAX_READ_LEN;
 use std::alloc::Global;
 use std::io::{Error, ErrorKind, Read};
-use std::net::{Shutdown, TcpStream};
+use std::net::Shutdown;
 use std::rt::Clock;
 
 /// How long such a socket is kept at most, in milliseconds.
@@ -47,7 +47,7 @@ fn is_of_now(error: &Error) -> bool {
 
 /// Passes over what has come. Whether more may.
 fn pass_over(socket: &Socket) -> bool {
-    let mut stream: &TcpStream = socket;
+    let mut stream = socket.stream();
     let mut piece = [0u8; MAX_READ_LEN];
     for _ in 0..MAX_LINGER_READS {
         match stream.read(&mut piece) {
@@ -76,7 +76,7 @@ impl Lingering {
 
     /// Shuts down the side to the client, and keeps the socket from now on. Where 64 are kept, and where memory is refused, it is closed.
     pub(crate) fn add<X: Clock>(&mut self, rt: &X, socket: Socket) {
-        if socket.shutdown(Shutdown::Write).is_err() || self.sockets.len() >= MAX_SOCKETS {
+        if socket.stream().shutdown(Shutdown::Write).is_err() || self.sockets.len() >= MAX_SOCKETS {
             return;
         }
         if self.sockets.reserve(1).is_ok() {

@@ -1,8 +1,9 @@
 //! What is told the end of each connection: the log.
 ghost use Rattle.std.specs.Prelude.{◌≡◌, ◌++◌, ◌∷◌, []};
 
+use crate::connection::Socket;
 use crate::door::Door;
-use crate::halves::{ReplyHalf, RequestHalf, Socket};
+use crate::halves::{ReplyHalf, RequestHalf};
 use crate::slots::Slot;
 use ghost_state::GhostList;
 use job_pool::NumberedEnd;

@@ -1,5 +1,6 @@
 //! What a worker has of its connections beside their sessions, and which of them are ready.
 
+use crate::connection::Socket;
 use crate::door::Door;
 use std::alloc::Global;
 use std::sync::Wait;
@@ -16,15 +17,15 @@ pub(crate) enum Patience {
 }
 
 /// What a worker has of the connection in a slot.
-#[derive(Clone, Copy, Drop)]
+#[derive(Drop)]
 pub(crate) struct Slot {
+    /// The socket, which is told what is reported of it. None where no connection is open.
+    socket: Option<Socket>,
     /// When something moved last, in milliseconds since the worker began.
     moved: u64,
     /// The slot behind it in the queue of those that are ready.
     next: usize,
     patience: Patience,
-    /// Whether a connection is open.
-    is_open: bool,
     /// Whether it stands in the queue of those that are to have a turn.
     is_ready: bool,
 }
@@ -42,12 +43,6 @@ pub(crate) struct Slots {
     last: usize,
     /// How many are to have a turn.
     ready: usize,
-}
-
-/// The slots, followed by room for more.
-fn widened(slots: &[Slot], mut wider: Vec<Slot>) -> Option<Vec<Slot>> {
-    wider.extend_from_slice(slots).ok()?;
-    Some(wider)
 }
 
 impl Slots {
@@ -72,23 +67,28 @@ impl Slots {
         if self.slots.len() < self.slots.capacity() {
             return;
         }
-        let wider = door.take_wider(rt, self.alloc);
-        if wider.capacity() > self.slots.len() {
-            if let Some(slots) = widened(self.slots.as_slice(), wider) {
-                self.slots = slots;
-            }
+        let mut wider = door.take_wider(rt, self.alloc);
+        if wider.capacity() > self.slots.len() && wider.append(&mut self.slots).is_ok() {
+            self.slots = wider;
         }
     }
 
-    /// A connection was opened in a slot at this time. False where memory for the slot is refused.
-    pub(crate) fn begin<X: Wait>(&mut self, rt: &X, door: &Door, slot: usize, now: u64) -> bool {
+    /// The connection of a socket was opened in a slot at this time. False where memory for the slot is refused.
+    pub(crate) fn begin<X: Wait>(
+        &mut self,
+        rt: &X,
+        door: &Door,
+        slot: usize,
+        socket: Socket,
+        now: u64,
+    ) -> bool {
         if slot >= self.slots.len() {
             self.widen(rt, door);
             let free = Slot {
+                socket: None,
                 moved: 0,
                 next: 0,
                 patience: Patience::Open,
-                is_open: false,
                 is_ready: false,
             };
             if self.slots.push(free).is_err() {
@@ -100,21 +100,30 @@ impl Slots {
         };
         one.moved = now;
         one.patience = Patience::Open;
-        one.is_open = true;
+        one.socket = Some(socket);
         true
     }
 
     /// The connection in a slot has ended.
     pub(crate) fn end(&mut self, slot: usize) {
         if let Some(one) = self.slots.get_mut(slot) {
-            one.is_open = false;
+            one.socket = None;
+        }
+    }
+
+    /// Something was reported of the socket in a slot, or its next read is to be a call; perhaps that nothing comes behind what has come.
+    pub(crate) fn note_event(&self, slot: usize, is_ending: bool) {
+        if let Some(one) = self.slots.get(slot) {
+            if let Some(socket) = &one.socket {
+                socket.note_event(is_ending);
+            }
         }
     }
 
     /// How long the connection in a slot is waited for; None where none is open.
     pub(crate) fn patience(&self, slot: usize) -> Option<Patience> {
         match self.slots.get(slot) {
-            Some(one) if one.is_open => Some(one.patience),
+            Some(one) if one.socket.is_some() => Some(one.patience),
             _ => None,
         }
     }
@@ -136,7 +145,9 @@ impl Slots {
     /// Whether the connection in a slot is waited for, and was silent since then.
     pub(crate) fn is_silent(&self, slot: usize, since: u64) -> bool {
         match self.slots.get(slot) {
-            Some(one) => one.is_open && one.patience == Patience::Open && one.moved < since,
+            Some(one) => {
+                one.socket.is_some() && one.patience == Patience::Open && one.moved < since
+            }
             None => false,
         }
     }
@@ -165,6 +176,12 @@ impl Slots {
         }
         self.last = slot;
         self.ready = self.ready.saturating_add(1);
+    }
+
+    /// The same of a slot whose next read is a call, whatever was reported.
+    pub(crate) fn mark_asked(&mut self, slot: usize) {
+        self.note_event(slot, false);
+        self.mark_ready(slot);
     }
 
     /// Takes the first slot out of the queue. It may be put there again.

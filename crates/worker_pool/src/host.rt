@@ -2,16 +2,17 @@
 ghost use Rattle.std.specs.Prelude.{◌≡◌};
 
 use crate::job::{EndRead, EndWrite, Job};
+use crate::kept::Kept;
 use crate::server::{ServedJob, Server};
 use crate::sitting::Sitting;
 use crate::stream_readiness::StreamReadiness;
 use crate::tray::Tray;
-use gate_node::{GateNode, Reserve, Shared, Turnstile};
+use gate_node::{GateNode, Shared, Turnstile};
 use job_pool::{Moved, Readiness, Service, Turn};
 use std::alloc::Global;
 use std::marker::{Brand, Model, PhantomData};
+use std::sync::Wait;
 use std::sync::ledger::Ledger;
-use std::sync::{Mutex, Wait};
 
 /// Which gates a run is over. Each run picks its own, so that the passes of a worker are known to be of the gates of its jobs.
 pub trait OfGates {
@@ -147,21 +148,13 @@ where
     }
 }
 
-/// What the workers of a run keep back, in their order.
-#[derive(Drop)]
-pub(crate) struct Kept {
-    pub(crate) reserves: Vec<Reserve>,
-    /// Whose reserve is being filled has it.
-    pub(crate) filling: Mutex<()>,
-}
-
 /// What a worker waits with, which is shown the streams of a session; and the worker's reserve, which its own thread fills once all threads were
 /// started, one worker behind the other: an allocator may take much more for a thread for a moment than what it keeps.
 #[derive(Drop)]
 pub(crate) struct Watch<'a, Y> {
     streams: Y,
     kept: &'a Kept,
-    /// Which of the reserves is the worker's.
+    /// Which of them is the worker.
     place: usize,
     is_filled: bool,
     alloc: Global,
@@ -183,8 +176,8 @@ impl<'a, Y> Watch<'a, Y> {
     fn fill<V: Wait>(&mut self, rt: &V, may_take_memory: bool) {
         if may_take_memory && !self.is_filled {
             let held = self.kept.filling.lock(rt);
-            if let Some(reserve) = self.kept.reserves.as_slice().get(self.place) {
-                let _is_whole = reserve.fill(self.alloc);
+            if let Some(worker) = self.kept.workers.as_slice().get(self.place) {
+                let _is_whole = worker.reserve.fill(self.alloc);
             }
             drop(held);
             self.is_filled = true;

@@ -31,6 +31,7 @@ mod closed;
 mod end_sink;
 mod host;
 mod job;
+mod kept;
 mod laws;
 mod pool;
 mod seat;

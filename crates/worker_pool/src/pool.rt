@@ -158,7 +158,7 @@ where
         shared,
         book: &book,
         turnstile,
-        reserves: none.as_slice(),
+        kept: none.as_slice(),
         jobs: PhantomData,
     };
     match job_pool::run(rt, alloc, &server, jobs, trays) {

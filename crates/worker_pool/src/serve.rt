@@ -11,8 +11,9 @@ ghost use Rattle.worker_pool.specs.Tellers.{AreApart, IsFaultAfterTold, IsNewSea
 ghost use Rattle.worker_pool.specs.Telling.{LeavesTold, TellsSource};
 
 use crate::end_sink::EndSink;
-use crate::host::{Host, Kept, OfGates, Watch};
+use crate::host::{Host, OfGates, Watch};
 use crate::job::{EndRead, EndWrite, Job};
+use crate::kept::{Kept, new_kept};
 use crate::pool::{Pool, SHARES, fault_of};
 use crate::seat::Seat;
 use crate::served::Served;
@@ -20,13 +21,13 @@ use crate::server::Server;
 use crate::stream_readiness::StreamReadiness;
 use crate::teller::{Teller, either};
 use crate::tray::{Tray, stocks_of};
-use gate_node::{Passes, PoolFault, Reserve, Shared, Turnstile, tallies_of};
+use gate_node::{Passes, PoolFault, Shared, Turnstile, tallies_of};
 use job_pool::{Bell, Jobs, Station, Told, run_at};
 use stats_book::{Blanks, Book, Stock, close_stocks, open_stocks};
 use std::alloc::{AllocError, Global};
 use std::marker::{Brand, PhantomData};
+use std::sync::Wait;
 use std::sync::ledger::Ledger;
-use std::sync::{Mutex, Wait};
 use std::thread::Threads;
 
 /// What a worker of a run is started with.
@@ -82,19 +83,7 @@ where
     })
 }
 
-/// So many reserves, in which nothing is yet.
-fn reserves_of(alloc: Global, count: usize) -> Result<Kept, AllocError> {
-    let mut reserves = Vec::new(alloc);
-    for _ in 0..count {
-        reserves.push(Reserve::new(alloc))?;
-    }
-    Ok(Kept {
-        reserves,
-        filling: Mutex::new(()),
-    })
-}
-
-/// What the workers are started with, each with one of these stocks and the reserve in its place.
+/// What the workers are started with, each with one of these stocks, and with what the worker in its place keeps.
 fn stations_of<'a, H, I, O, K, D, B, G, P, L, E, R>(
     alloc: Global,
     shared: &Shared,
@@ -285,7 +274,7 @@ where
     else {
         return Err(PoolFault::NoMemory);
     };
-    let Ok(kept) = reserves_of(alloc, seats.len()) else {
+    let Ok(kept) = new_kept(alloc, shared.handoff().ring(), seats.len()) else {
         return Err(PoolFault::NoMemory);
     };
     let Ok(stations) = stations_of(alloc, shared, stocks, seats, &kept) else {
@@ -296,7 +285,7 @@ where
         shared,
         book: &book,
         turnstile,
-        reserves: kept.reserves.as_slice(),
+        kept: kept.workers.as_slice(),
         jobs: PhantomData,
     };
     let host = Host::<H, X, T, I, O, G, P, D, E, R>::new(server);
@@ -319,7 +308,9 @@ impl Pool {
     ///
     /// A worker keeps its passes of the gates, which it lays together with those of each session that is over: a comparison of two
     /// numbers for each partition and end. It keeps nothing else of a session that is over. Beside that each has half a MiB kept back for what
-    /// doesn't make the vnodes grow ([`gate_node::Reserve`]), which its own thread fills once its readiness says that it may take memory.
+    /// doesn't make the vnodes grow ([`gate_node::Reserve`]), which its own thread fills once its readiness says that it may take memory; and, where
+    /// there is more than one partition, 416 KiB for those of keys that it met ([`gate_node::PartitionCache`]), which are made before a thread is
+    /// started. Where memory is refused for these it remembers none.
     ///
     /// Where it is refused, the workers that were started have been joined, what the sinks were told was so, and the sinks are let go:
     ///

@@ -3,9 +3,10 @@ ghost use Rattle.std.specs.Prelude.{◌≡◌, true, false};
 ghost use Rattle.gate_node.specs.Passes.{ArePassesOf};
 
 use crate::job::{End, EndRead, EndWrite, Job};
+use crate::kept::KeptByWorker;
 use crate::sitting::Sitting;
 use crate::tray::Tray;
-use gate_node::{GateNode, Passes, Reserve, Shared, Turnstile};
+use gate_node::{GateNode, Passes, Shared, Turnstile};
 use job_pool::{Moved, Service};
 use stats_book::{Book, Share};
 use std::alloc::Global;
@@ -27,8 +28,8 @@ pub struct Server<'a, X, T, I, O, G: Ledger, P: Ledger, D: Ledger, E: Ledger, R:
     pub(crate) shared: &'a Shared,
     pub(crate) book: &'a Book<G, P, D, E, R>,
     pub(crate) turnstile: &'a T,
-    /// What each worker keeps back, in the workers' order. None where they keep nothing.
-    pub(crate) reserves: &'a [Reserve],
+    /// What each worker keeps, in the workers' order. None where they keep nothing.
+    pub(crate) kept: &'a [KeptByWorker],
     pub(crate) jobs: PhantomData<Job<I, O>>,
 }
 
@@ -44,15 +45,19 @@ fn parts_of<X: Wait, T: Turnstile, G: Ledger, P: Ledger, D: Ledger, E: Ledger, R
     node.parts()
 }
 
-/// A node with what its worker keeps back, where it does.
+/// A node with what its worker keeps, where it does.
 fn kept_by<'a, X: Wait, T: Turnstile, G: Ledger, P: Ledger, D: Ledger, E: Ledger, R: Ledger>(
     node: GateNode<'a, X, T, G, P, D, E, R>,
-    reserve: Option<&'a Reserve>,
+    worker: Option<&'a KeptByWorker>,
 ) -> GateNode<'a, X, T, G, P, D, E, R>
     ensures { result ≡ node.entry }
 {
-    match reserve {
-        Some(reserve) => node.with_reserve(reserve),
+    let Some(worker) = worker else {
+        return node;
+    };
+    let node = node.with_reserve(&worker.reserve);
+    match &worker.partitions {
+        Some(partitions) => node.with_partitions(partitions),
         None => node,
     }
 }
@@ -111,15 +116,15 @@ where
             passes,
             self.turnstile,
         );
-        let node = kept_by(node, self.reserves.get(worker.place));
+        let node = kept_by(node, self.kept.get(worker.place));
         let reads = self.shared.reads();
         Ok(Sitting::new(alloc, node, reader, writer, reads))
     }
 
     /// Gives the worker's reserve up, where it has one.
     fn make_room(&self, _alloc: Global, worker: &Tray<G, P, D, E, R>) -> bool {
-        match self.reserves.get(worker.place) {
-            Some(reserve) => reserve.give_up(self.shared),
+        match self.kept.get(worker.place) {
+            Some(kept) => kept.reserve.give_up(self.shared),
             None => false,
         }
     }

@@ -8,8 +8,8 @@ use std::alloc::{AllocError, Global};
 use std::marker::Model;
 use std::sync::ledger::Ledger;
 
-/// The shares of a book that a worker's sessions take and give back, what is lent to each of their steps, and which of the run's reserves is the
-/// worker's, where it has them.
+/// The shares of a book that a worker's sessions take and give back, what is lent to each of their steps, and which of the run's workers it
+/// is.
 ///
 /// Contracts see what the shares that came back have counted.
 pub struct Tray<G: Ledger, P: Ledger, D: Ledger, E: Ledger, R: Ledger> {

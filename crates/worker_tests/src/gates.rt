@@ -114,6 +114,22 @@ const SESSIONS: &[Sessions] = &[
         calls: 1_234,
     },
     Sessions {
+        shows: "the same, where the partition of one key is remembered",
+        budget: 0,
+        sessions: &[Session {
+            has_reserve: true,
+            requests: TWO_KEYS,
+            replies: TWO_VNODES,
+            totals: Totals {
+                gets: 2,
+                puts: 2,
+                ..NOTHING_COUNTED
+            },
+            ..NEW_SESSION
+        }],
+        calls: 1_234,
+    },
+    Sessions {
         shows: "a budget forgets the dead key, and no reap is a call",
         budget: 1,
         sessions: &[Session {

@@ -1,5 +1,5 @@
 //! Tests of `stats_book`, `job_pool`, `handoff`, `gate_node`, `worker_pool` and `node_commands`, from outside: what is counted, jobs and who serves
-//! them, nodes over gates, also where a partition is diverted, copied back and returned, runs of a pool, and connections served over sockets of this machine.
+//! them, what is remembered of keys, nodes over gates, also where a partition is diverted, copied back and returned, runs of a pool, and connections served over sockets of this machine.
 //!
 //! They stand in a crate of their own, since a crate with tests is proved twice.
 #![tactic(auto)]
@@ -18,6 +18,8 @@ mod exchanges;
 mod gates;
 #[cfg(test)]
 mod jobs;
+#[cfg(test)]
+mod partitions;
 #[cfg(test)]
 mod playing;
 #[cfg(test)]

@@ -4,7 +4,7 @@ ghost use Rattle.stats_book.specs.Holdings.{AllAre};
 ghost use Rattle.gate_node.specs.Passes.{ArePassesOf};
 
 use crate::exchanges::NOTHING_COUNTED;
-use gate_node::{GateNode, Passes, Reserve, Shared, Turnstile};
+use gate_node::{GateNode, PartitionCache, Passes, Reserve, Shared, Turnstile};
 use node_session::{Node, serve};
 use stats_book::{Blanks, Book, Quantity, Share, Totals, close};
 use std::alloc::Global;
@@ -15,7 +15,7 @@ use std::sync::ledger::Ledger;
 /// A session by a node of its own, and what it comes to.
 #[derive(Clone, Copy)]
 pub struct Session {
-    /// Whether the node's thread keeps memory back.
+    /// Whether the node's thread keeps memory back, and remembers the partition of a key.
     pub has_reserve: bool,
     /// How many gets the node's share has counted before.
     pub gets_before: u64,
@@ -61,7 +61,7 @@ fn gives_up<W: Wait, T: Turnstile, G: Ledger, P: Ledger, D: Ledger, E: Ledger, R
     node.make_room(alloc) == has_reserve && node.make_room(alloc) == has_reserve
 }
 
-/// Whether a node with this share, whose thread keeps memory back, answers as the session says, and finds the book as full; and its passes.
+/// Whether a node with this share, whose thread keeps memory back and remembers the partition of a key, answers as the session says, and finds the book as full; and its passes.
 fn serve_keeping<W: Wait, T: Turnstile, G: Ledger, P: Ledger, D: Ledger, E: Ledger, R: Ledger>(
     rt: &W,
     alloc: Global,
@@ -77,7 +77,8 @@ fn serve_keeping<W: Wait, T: Turnstile, G: Ledger, P: Ledger, D: Ledger, E: Ledg
 {
     let reserve = Reserve::new(alloc);
     let node = GateNode::new(rt, shared, book, share, passes, turnstile);
-    let mut kept = node.with_reserve(&reserve);
+    let partitions = PartitionCache::new(alloc, shared.handoff().ring(), 1);
+    let mut kept = node.with_reserve(&reserve).with_partitions(&partitions);
     let is_given_up = gives_up(alloc, &kept, true);
     let is_answered = answers(alloc, &mut kept, session);
     let (share, passes, is_book_full) = kept.parts();

@@ -53,5 +53,5 @@ returns-in-Ok-run_at-clause-sinks g c =
     IfOk-weaker c.settle.result _ _ (λ served left. sinks_count g.K.EndSink.told c.args.shared.now g.J.Jobs.gives g.I.Read.remaining g.O.Write.contents c.args.jobs.now c.run_at.new.jobs c.new-host.result once.0 (map worker_of stations)
     told.workers.items told.sinks.items told.given told.refused once.2 served left ∙ length-map stations worker_of ∙ c.in-Ok-stations_of.ensures.count) c.settle.ensures.served
 
-pub returns-in_default-reserves_of-clause-fault : goal.returns-in_default-reserves_of-clause-fault
-returns-in_default-reserves_of-clause-fault g c = ([], inl (inl refl))
+pub returns-in_default-new_kept-clause-fault : goal.returns-in_default-new_kept-clause-fault
+returns-in_default-new_kept-clause-fault g c = ([], inl (inl refl))

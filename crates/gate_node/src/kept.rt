@@ -1,0 +1,51 @@
+//! What the thread of a node keeps, and lends to the node.
+ghost use Rattle.std.specs.Prelude.{◌≡◌, ◌<◌, ◌^◌};
+ghost use Rattle.node_session.specs.PlainNodes.{partition_of};
+
+use crate::node::GateNode;
+use crate::partition_cache::PartitionCache;
+use crate::reserve::Reserve;
+use crate::turnstile::Turnstile;
+use riak_msgs::Key;
+use std::sync::Wait;
+use std::sync::ledger::Ledger;
+
+impl<'a, W: Wait, T: Turnstile, G: Ledger, P: Ledger, D: Ledger, E: Ledger, R: Ledger> GateNode<
+    'a,
+    W,
+    T,
+    G,
+    P,
+    D,
+    E,
+    R,
+> {
+    /// This node with memory kept back for what doesn't make its vnodes grow. It takes no memory.
+    pub fn with_reserve(mut self, reserve: &'a Reserve) -> Self
+        ensures { result ≡ self.entry }
+    {
+        self.reserve = Some(reserve);
+        self
+    }
+
+    /// This node with the partitions of the keys that its thread met. It takes no memory.
+    pub fn with_partitions(mut self, partitions: &'a PartitionCache) -> Self
+        ensures { result ≡ self.entry }
+    {
+        self.partitions = Some(partitions);
+        self
+    }
+
+    /// The index of the partition that a key lies in, as its thread remembers it, or by the key's digest.
+    pub(crate) fn index(&self, key: &Key) -> usize
+        ensures index { result ≡ partition_of self.now.shared.index_bits key.now }
+        ensures below { result < 2 ^ self.now.shared.index_bits }
+    {
+        let shared = self.shared;
+        let ring = shared.handoff.ring();
+        usize::from(match self.partitions {
+            Some(partitions) => partitions.index(&ring, key),
+            None => ring.index(key),
+        })
+    }
+}

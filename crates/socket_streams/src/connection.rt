@@ -1,0 +1,67 @@
+//! The socket of a connection, and what its worker was told of it.
+
+use std::alloc::Global;
+use std::net::TcpStream;
+use std::sync::Arc;
+use std::sync::atomic::{AtomicBool, Ordering};
+
+/// The socket of a connection, with what its worker was told of it. A read that takes fewer bytes than it has room for has taken all that came, so
+/// that the next one would have to wait: it needs no call of the system, until that reports something new. Where it has reported that the
+/// client ended its half, or that the connection failed, it won't do so again: then each read is a call.
+#[derive(Drop)]
+pub(crate) struct Connection {
+    stream: TcpStream,
+    /// Whether a read has taken all that came, and nothing was reported since.
+    is_drained: AtomicBool,
+    /// Whether it was reported that nothing comes behind what has come.
+    is_ending: AtomicBool,
+}
+
+/// A connection, which its two halves and its worker's slot have. The socket is closed when all have let go of it.
+pub(crate) type Socket = Arc<Connection, Global>;
+
+impl Connection {
+    /// Of a stream of which nothing was reported.
+    pub(crate) fn new(stream: TcpStream) -> Connection {
+        Connection {
+            stream,
+            is_drained: AtomicBool::new(false),
+            is_ending: AtomicBool::new(false),
+        }
+    }
+
+    /// The stream.
+    pub(crate) fn stream(&self) -> &TcpStream {
+        &self.stream
+    }
+
+    /// The stream alone.
+    pub(crate) fn into_stream(self) -> TcpStream {
+        let Connection {
+            stream,
+            is_drained: _,
+            is_ending: _,
+        } = self;
+        stream
+    }
+
+    /// Whether a read would have to wait.
+    pub(crate) fn is_drained(&self) -> bool {
+        self.is_drained.load(Ordering::SeqCst)
+    }
+
+    /// A read took so many bytes and had room for so many.
+    pub(crate) fn note_read(&self, taken: usize, room: usize) {
+        if taken < room && !self.is_ending.load(Ordering::SeqCst) {
+            self.is_drained.store(true, Ordering::SeqCst);
+        }
+    }
+
+    /// Something was reported, so that the next read is a call; perhaps that nothing comes behind what has come.
+    pub(crate) fn note_event(&self, is_ending: bool) {
+        if is_ending {
+            self.is_ending.store(true, Ordering::SeqCst);
+        }
+        self.is_drained.store(false, Ordering::SeqCst);
+    }
+}

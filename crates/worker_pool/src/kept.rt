@@ -1,0 +1,52 @@
+//! What the workers of a run keep for themselves.
+
+use gate_node::{PartitionCache, Reserve};
+use ring_map::Ring;
+use std::alloc::{AllocError, Global};
+use std::sync::Mutex;
+
+/// Of how many keys a worker remembers the partitions: 416 KiB of them.
+const PLACES: usize = 8_192;
+
+/// What a worker keeps, and lends to the nodes of its sessions.
+#[derive(Drop)]
+pub(crate) struct KeptByWorker {
+    /// What it keeps back, of which nothing is there at first.
+    pub(crate) reserve: Reserve,
+    /// The partitions of the keys that it met. None where there is one partition.
+    pub(crate) partitions: Option<PartitionCache>,
+}
+
+impl KeptByWorker {
+    /// Of a worker on this ring.
+    fn new(alloc: Global, ring: Ring) -> KeptByWorker {
+        let mut partitions = None;
+        if ring.size() > 1 {
+            partitions = Some(PartitionCache::new(alloc, ring, PLACES));
+        }
+        KeptByWorker {
+            reserve: Reserve::new(alloc),
+            partitions,
+        }
+    }
+}
+
+/// What the workers of a run keep, in their order.
+#[derive(Drop)]
+pub(crate) struct Kept {
+    pub(crate) workers: Vec<KeptByWorker>,
+    /// Whose reserve is being filled has it.
+    pub(crate) filling: Mutex<()>,
+}
+
+/// What so many workers keep on this ring.
+pub(crate) fn new_kept(alloc: Global, ring: Ring, count: usize) -> Result<Kept, AllocError> {
+    let mut workers = Vec::with_capacity(alloc, count)?;
+    for _ in 0..count {
+        workers.push(KeptByWorker::new(alloc, ring))?;
+    }
+    Ok(Kept {
+        workers,
+        filling: Mutex::new(()),
+    })
+}
