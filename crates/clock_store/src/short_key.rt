@@ -5,7 +5,7 @@ ghost use Rattle.std.proofs.Common.{rules};
 ghost use Rattle.std.specs.Cmp.{partial_order_from_own_ties};
 ghost use Rattle.std.specs.Cmp.Rules.{comparing};
 ghost use Rattle.std.specs.Cmp.Lexicographic.{slice_cmp};
-ghost use Rattle.std.specs.Ordering.{nat_cmp, as_partial_cmp, ordering_then};
+ghost use Rattle.std.specs.Ordering.{nat_cmp, as_partial_cmp};
 ghost use Rattle.riak_msgs.specs.KeyOrder.{key_cmp, key_eq};
 ghost use Rattle.riak_msgs.specs.Requests.{default_key};
 ghost use Rattle.names.specs.ShortNames.{is_short};
