@@ -14,8 +14,9 @@ use std::alloc::Global;
 use std::marker::Model;
 use std::snapshot::Snapshot;
 
-/// How many steps a job takes at most before others have their turn.
-const MAX_STEPS_PER_TURN: u32 = 64;
+/// How many steps a job takes at most before others have their turn: enough for some 300 short requests, so that a job mostly stops where it
+/// waits for more, and holds little then.
+const MAX_STEPS_PER_TURN: u32 = 1024;
 
 /// The jobs that a worker has open, each in a slot, the worker's state, and what is told the ends.
 ///

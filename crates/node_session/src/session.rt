@@ -14,6 +14,7 @@ use crate::node::Node;
 use crate::outbox::Outbox;
 use crate::reply::frame_fault_text;
 use crate::scratch::Scratch;
+use crate::serving::MAX_READ_LEN;
 use ghost_state::{GhostList, Listing};
 use pb_frame::{Framer, MAX_REQUEST_LEN};
 use std::alloc::{AllocError, Global};
@@ -132,6 +133,14 @@ impl Session {
         ensures { self.new ≡ self.old }
     {
         self.framer.lend(requests, more);
+    }
+
+    /// How many bytes are to be read at once, which have room in what is lent, or as few that a page is enough for what they make longer.
+    #[inline(always)]
+    pub(crate) fn reading_len(&self, requests: &Vec<u8>) -> usize
+        ensures { (0 < result) × (result ≤ max_read_len) }
+    {
+        self.framer.reading_len(requests, MAX_READ_LEN)
     }
 
     /// Gives the room back that was lent to it, where nothing is to be answered any more.

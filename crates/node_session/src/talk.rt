@@ -221,6 +221,32 @@ impl Talk {
         }
     }
 
+    /// Reads once into a buffer of 4,096 bytes: as much as there is room for in what is lent, or what a page holds.
+    #[inline(always)]
+    fn read_some<N: Node, R: Read>(
+        &mut self,
+        alloc: Global,
+        reader: &mut R,
+        node: &N,
+        piece: &mut [u8],
+        requests: &mut Vec<u8>,
+    ) -> Option<Stage>
+        requires fits { Fits Reading self.old }
+        requires room { length piece.old ≡ max_read_len }
+        ensures goes { IfSome result (λ stage. (now : N) (held : Option (List ℕ)) → Goes N.step
+            now now (R.remaining reader.old) (R.remaining reader.new) held held
+            Reading self.old stage self.new) }
+        ensures fits { IfSome result (λ stage. Fits stage self.new) }
+        ensures less { IfSome result (λ stage.
+            weight stage self.new < weight Reading self.old) }
+        ensures most { self.new.most ≡ self.old.most }
+        ensures waits { IfNone result ((self.new ≡ self.old)
+            × Keeps (R.remaining reader.old) (R.remaining reader.new)) }
+    {
+        let len = self.session.reading_len(requests);
+        self.read::<N, R>(alloc, reader, node, &mut piece[..len], requests)
+    }
+
     /// Takes one step from a stage that isn't the last one. The stage to which it comes; None where a stream would have to wait.
     #[inline(always)]
     pub(crate) fn go<N: Node, R: Read, W: Write>(
@@ -256,7 +282,7 @@ impl Talk {
                     requests,
                     ..
                 } = scratch;
-                self.read::<N, R>(alloc, reader, &*node, piece, requests)
+                self.read_some::<N, R>(alloc, reader, &*node, piece, requests)
             }
             Stage::Closing(fault) => self.close::<N, W>(writer, fault),
             Stage::Over(_) => unreachable!(),

@@ -1,6 +1,6 @@
 //! A stream of frames that is fed in any pieces.
 
-ghost use Rattle.std.specs.Prelude.{◌≡◌, ◌≤◌, ◌++◌, [], length, None, IfSome, IsErrOf, IsOkUnless, OnOk, OnErr, vec_capacity};
+ghost use Rattle.std.specs.Prelude.{◌≡◌, ◌≤◌, ◌<◌, ◌++◌, [], length, None, IfSome, IsErrOf, IsOkUnless, OnOk, OnErr, vec_capacity};
 
 use crate::decode::{Header, decode_header};
 use crate::fault::FrameFault;
@@ -9,6 +9,9 @@ use crate::idle::{return_room, shrink_empty};
 use std::alloc::Global;
 use std::marker::Model;
 use std::mem;
+
+/// How many bytes a small buffer has: a page, beside what an allocator adds.
+const SMALL: usize = 4_080;
 
 /// The bytes of a stream that were fed and not yet taken in frames.
 ///
@@ -93,10 +96,38 @@ impl Framer {
             return Err(fault);
         }
         self.compact();
+        if !self.has_small_room(piece.len()) {
+            return Err(FrameFault::NoMemory);
+        }
         match self.bytes.extend_from_slice(piece) {
             Ok(()) => Ok(()),
             Err(_) => Err(FrameFault::NoMemory),
         }
+    }
+
+    /// Makes room for so many bytes more, and for no others, where a small buffer is enough. False where memory is refused for it.
+    fn has_small_room(&mut self, more: usize) -> bool
+        ensures { self.new ≡ self.old }
+    {
+        if self.bytes.len().saturating_add(more) > SMALL {
+            return true;
+        }
+        self.bytes.reserve_exact(more).is_ok()
+    }
+
+    /// How many of so many bytes are to be read at once: all where they have room in this buffer or in a lent one, else as many as a small
+    /// buffer holds behind what is left, where that is less. So a full node, whose free memory lies in pages, finds room for them.
+    pub fn reading_len(&self, room: &Vec<u8>, len: usize) -> usize
+        requires { 0 < len }
+        ensures some { 0 < result }
+        ensures most { result ≤ len }
+    {
+        let left = self.rest();
+        let wanted = left.saturating_add(len);
+        if wanted <= self.bytes.capacity() || wanted <= room.capacity() || left >= SMALL {
+            return len;
+        }
+        len.min(SMALL - left)
     }
 
     /// Goes over to a lent buffer where a piece of so many bytes has room there behind what is left, and none in its own: what is left is moved there, and
@@ -147,14 +178,14 @@ impl Framer {
         bytes
     }
 
-    /// Moves what is left to the front, once at least as many bytes before it were taken. So over all
-    /// calls no more bytes are moved than were taken, and what is kept of bytes that were taken is
-    /// less than what is left.
+    /// Moves what is left to the front, once at least as many bytes before it were taken, and always in a
+    /// small buffer. So over all calls no more bytes are moved than were taken, but for 4,080 at each, and
+    /// what is kept of bytes that were taken is less than what is left.
     fn compact(&mut self)
         ensures { self.new ≡ self.old }
     {
         let left = self.rest();
-        if self.start >= left {
+        if self.start >= left || self.bytes.len() <= SMALL {
             self.bytes.copy_within(self.start.., 0);
             self.bytes.truncate(left);
             self.start = 0;

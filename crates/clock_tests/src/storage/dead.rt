@@ -10,20 +10,27 @@ use std::alloc::{AllocError, Global};
 type Name = (&'static [u8], &'static [u8], &'static [u8]);
 
 const T: &[u8] = DEFAULT_TYPE;
+
 const LONG: &[u8] = b"k and some bytes more than fit";
+
 const K: Name = (T, b"b", b"k");
+
 const FITS: Name = (T, b"b", b"k of 15 bytes..");
+
 const LONG_KEY: Name = (T, b"b", LONG);
+
 const L: Name = (T, b"b", b"l");
+
 const LONG_BUCKET: Name = (T, b"b with a name of many bytes", b"a");
+
 const C: Name = (T, b"c", b"");
+
 const LOW_TYPE: Name = (b"a type", b"z", b"z");
+
 const HIGH_TYPE: Name = (b"other", b"a", b"a");
 
 /// All of them, not in their order.
-const ALL: &[Name] = &[
-    L, HIGH_TYPE, LONG_KEY, C, K, LOW_TYPE, FITS, LONG_BUCKET,
-];
+const ALL: &[Name] = &[L, HIGH_TYPE, LONG_KEY, C, K, LOW_TYPE, FITS, LONG_BUCKET];
 
 struct Row {
     shows: &'static str,
@@ -39,9 +46,7 @@ const ROWS: &[Row] = &[
     Row {
         shows: "all go in key order, whatever their names",
         from: None,
-        reaped: &[
-            LOW_TYPE, K, LONG_KEY, FITS, L, LONG_BUCKET, C, HIGH_TYPE,
-        ],
+        reaped: &[LOW_TYPE, K, LONG_KEY, FITS, L, LONG_BUCKET, C, HIGH_TYPE],
         left: &[],
     },
     Row {
@@ -115,12 +120,7 @@ fn is_held<S: ClockStore>(store: &S, alloc: Global, name: Name) -> bool {
 }
 
 /// Whether the least dead key from one on is this one, which is reaped.
-fn goes_first<S: ClockStore>(
-    store: &mut S,
-    alloc: Global,
-    from: Option<&Key>,
-    name: Name,
-) -> bool {
+fn goes_first<S: ClockStore>(store: &mut S, alloc: Global, from: Option<&Key>, name: Name) -> bool {
     let is_there = is_held(store, alloc, name) && store.has_dead(from);
     let goes = store.forget_first_dead(from);
     is_there && goes && !is_held(store, alloc, name)
