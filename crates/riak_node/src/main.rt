@@ -28,6 +28,7 @@ mod command_line;
 mod commands;
 mod conclusion;
 mod drained_console;
+mod frame_counter;
 mod log_time;
 mod option_values;
 mod options;
@@ -39,8 +40,10 @@ use clap::error::ErrorKind;
 use commands::{pipe_as_asked, place_of, ring_of, steps_as_asked};
 use conclusion::Conclusion;
 use drained_console::DrainedConsole;
+use frame_counter::FrameCounter;
 use log::{Level, Log, Logged, warn};
 use node_commands::serve_as_asked;
+use node_session::SessionFault;
 use ring_map::Ring;
 use schedule_player::StepsFault;
 use std::alloc::Global;
@@ -95,15 +98,25 @@ fn tell(rt: &HostRuntime, error: clap::Error) -> ExitCode {
     ExitCode::from(status)
 }
 
-/// Serves standard input to standard output, by a ring of the asked size if there is one.
+/// Serves standard input to standard output, by a ring of the asked size if there is one. The replies to what one read brought are gathered
+/// for one write, up to 8,192 bytes. Where a write failed some are left, which are neither counted nor tried again.
 fn serve_streams(rt: &HostRuntime, options: PipeOptions) -> Conclusion {
     let ring = match ring_of(options.ring) {
         Ok(ring) => ring,
         Err(end) => return end,
     };
+    let alloc = rt.alloc();
     let mut input = rt.stdin();
-    let mut output = rt.stdout();
-    Conclusion::Piped(pipe_as_asked(rt.alloc(), ring, options, &mut input, &mut output))
+    let Ok(mut output) = BufWriter::new(alloc, FrameCounter::new(rt.stdout())) else {
+        return Conclusion::Piped(Err(SessionFault::NoMemory(0)));
+    };
+    let outcome = pipe_as_asked(alloc, ring, options, &mut input, &mut output);
+    let (counter, unwritten) = output.into_parts();
+    if unwritten.is_empty() {
+        Conclusion::Piped(outcome)
+    } else {
+        Conclusion::Piped(Err(SessionFault::WriteFailed(counter.whole())))
+    }
 }
 
 /// A listener on this address and port. None where there is none, and where a standard stream was closed before the program began: sockets
