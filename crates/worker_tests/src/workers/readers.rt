@@ -3,12 +3,13 @@ use crate::diversions::divert;
 use crate::exchanges::{GET, NOTHING, NOTHING_ACCEPTED, NOTHING_COUNTED, new_shared};
 use crate::workers::runs::{Run, play_over};
 use crate::workers::script::Line;
+use crate::workers::streams::Counts;
 use node_session::Ended;
 use stats_book::Totals;
 use std::alloc::Global;
 use std::process::Abort;
-use std::sync::Wait;
 use std::sync::atomic::{AtomicU64, Ordering};
+use std::sync::{Arc, Wait};
 use std::test::*;
 use std::thread;
 use std::thread::Threads;
@@ -20,7 +21,7 @@ const TURNS: u32 = 10_000_000;
 /// Holds the first call until a reply was written, and then says so.
 #[derive(Drop)]
 struct Holding<'a> {
-    writes: &'a AtomicU64,
+    counts: &'a Counts,
     met: &'a AtomicU64,
 }
 
@@ -30,7 +31,7 @@ impl Turnstile for Holding<'_> {
             return;
         }
         for _ in 0..TURNS {
-            if self.writes.load(Ordering::SeqCst) > 0 {
+            if self.counts.writes.load(Ordering::SeqCst) > 0 {
                 self.met.store(1, Ordering::SeqCst);
                 return;
             }
@@ -65,13 +66,15 @@ const TWO_GETS: Run = Run {
 
 /// Whether the second get over these gates was answered while the first was inside.
 fn meet<X: Threads + Wait + Sync>(rt: &X, alloc: Global, shared: &Shared) -> bool {
-    let writes = AtomicU64::new(0);
+    let Ok(counts) = Arc::new(alloc, Counts::new()) else {
+        return false;
+    };
     let met = AtomicU64::new(0);
     let turnstile = Holding {
-        writes: &writes,
+        counts: &counts,
         met: &met,
     };
-    let is_well = play_over(rt, alloc, shared, &writes, &turnstile, &TWO_GETS);
+    let is_well = play_over(rt, alloc, shared, &counts, &turnstile, &TWO_GETS);
     is_well && met.load(Ordering::SeqCst) == 1
 }
 

@@ -2,13 +2,13 @@
 //! fails behind them.
 use crate::exchanges::{LIVED_TWICE, NOTHING_ACCEPTED, TWO_LIVES, accepted_of, new_shared};
 use crate::workers::script::{Line, Script, play};
-use crate::workers::streams::{Input, Output};
+use crate::workers::streams::{Counts, Input, Output};
 use node_session::{Ended, SessionFault};
 use stats_book::Totals;
 use std::alloc::Global;
 use std::process::Abort;
-use std::sync::Wait;
-use std::sync::atomic::{AtomicU64, Ordering};
+use std::sync::atomic::Ordering;
+use std::sync::{Arc, Wait};
 use std::test::*;
 use std::thread::Threads;
 use vnode_core::Tally;
@@ -30,7 +30,7 @@ pub struct Run {
 }
 
 /// One that is whole, one that is cut, and one whose writer fails.
-const THREE_JOBS: &[Line] = &[
+pub const THREE_JOBS: &[Line] = &[
     // A put of "v" on b/k, a delete without context, and a get: stored, deleted, and nothing.
     Line {
         input: b"\0\0\0\x0c\x0b\x0a\x01b\x12\x01k\x22\x03\x0a\x01v\0\0\0\x07\x0d\x0a\x01b\x12\x01k\0\0\0\x07\x09\x0a\x01b\x12\x01k",
@@ -60,7 +60,7 @@ const THREE_JOBS: &[Line] = &[
     },
 ];
 
-const RUNS: &[Run] = &[
+pub const RUNS: &[Run] = &[
     Run {
         shows: "a key lives twice",
         partitions: 1,
@@ -121,16 +121,18 @@ const THREE_ACCEPTED: Tally = Tally {
     reaps: 1,
 };
 
-/// Whether a session ended as its line says, and its reader and writer were ended once.
-fn is_end(end: &End<Input, Output<'_>>, line: &Line) -> bool {
-    end.result == line.result
-        && end.writer.held.as_slice() == line.written
-        && end.reader.ended == 1
-        && end.writer.ended == 1
+/// Whether streams are those of a session over this line, and were ended once.
+pub fn are_streams(reader: &Input, writer: &Output, line: &Line) -> bool {
+    writer.held.as_slice() == line.written && reader.ended == 1 && writer.ended == 1
+}
+
+/// Whether a session ended as its line says.
+fn is_end(end: &End<Input, Output>, line: &Line) -> bool {
+    end.result == line.result && are_streams(&end.reader, &end.writer, line)
 }
 
 /// Whether these are the ends of the lines' jobs, in their order.
-fn are_ends(ends: &[End<Input, Output<'_>>], lines: &[Line]) -> bool {
+fn are_ends(ends: &[End<Input, Output>], lines: &[Line]) -> bool {
     let mut count = 0usize;
     for end in ends {
         match lines.get(count) {
@@ -155,7 +157,7 @@ fn sum_of(tallies: &[Tally]) -> Tally {
 }
 
 /// Whether the vnodes, so many, accepted what was counted, and what they are to accept.
-fn are_tallies(tallies: &[Tally], totals: Totals, run: &Run) -> bool {
+pub fn are_tallies(tallies: &[Tally], totals: Totals, run: &Run) -> bool {
     let counted = accepted_of(totals);
     tallies.len() == usize::from(run.partitions)
         && sum_of(tallies) == counted
@@ -163,7 +165,7 @@ fn are_tallies(tallies: &[Tally], totals: Totals, run: &Run) -> bool {
 }
 
 /// Whether what a run left is as it says.
-fn is_closed(closed: &Closed<Input, Output<'_>>, run: &Run) -> bool {
+fn is_closed(closed: &Closed<Input, Output>, run: &Run) -> bool {
     run.totals == Ok(closed.totals)
         && are_ends(closed.ends.as_slice(), run.lines)
         && are_tallies(closed.tallies.as_slice(), closed.totals, run)
@@ -175,16 +177,14 @@ pub fn play_over<X: Threads + Wait + Sync, T: Turnstile + Sync>(
     rt: &X,
     alloc: Global,
     shared: &Shared,
-    writes: &AtomicU64,
+    counts: &Arc<Counts, Global>,
     turnstile: &T,
     run: &Run,
 ) -> bool {
-    let well_ended = AtomicU64::new(0);
     let script = Script {
         alloc,
         shared,
-        writes,
-        well_ended: &well_ended,
+        counts,
         lines: run.lines,
         fails: run.fails,
     };
@@ -192,22 +192,23 @@ pub fn play_over<X: Threads + Wait + Sync, T: Turnstile + Sync>(
         Ok(closed) => is_closed(&closed, run),
         Err(fault) => run.totals == Err(fault),
     };
-    is_so && well_ended.load(Ordering::SeqCst) == run.lines.len() as u64
+    is_so && counts.well_ended.load(Ordering::SeqCst) == run.lines.len() as u64
 }
 
 /// Whether a run without jobs over these gates finds that the vnodes accepted what a run before was to.
-fn is_accepted<X: Threads + Wait + Sync>(
+pub fn is_accepted<X: Threads + Wait + Sync>(
     rt: &X,
     alloc: Global,
     shared: &Shared,
     run: &Run,
 ) -> bool {
-    let number = AtomicU64::new(0);
+    let Ok(counts) = Arc::new(alloc, Counts::new()) else {
+        return false;
+    };
     let script = Script {
         alloc,
         shared,
-        writes: &number,
-        well_ended: &number,
+        counts: &counts,
         lines: &[],
         fails: false,
     };
@@ -217,17 +218,14 @@ fn is_accepted<X: Threads + Wait + Sync>(
     }
 }
 
-/// The same over new gates.
-pub fn play_anew<X: Threads + Wait + Sync, T: Turnstile + Sync>(
-    rt: &X,
-    alloc: Global,
-    writes: &AtomicU64,
-    turnstile: &T,
-    run: &Run,
-) -> bool {
+/// The same over new gates, and that their vnodes accepted what they were to.
+fn play_anew<X: Threads + Wait + Sync>(rt: &X, alloc: Global, run: &Run) -> bool {
+    let Ok(counts) = Arc::new(alloc, Counts::new()) else {
+        return false;
+    };
     match new_shared(alloc, run.partitions, run.budget) {
         Some(shared) => {
-            play_over(rt, alloc, &shared, writes, turnstile, run)
+            play_over(rt, alloc, &shared, &counts, &Open, run)
                 && is_accepted(rt, alloc, &shared, run)
         }
         None => false,
@@ -237,11 +235,6 @@ pub fn play_anew<X: Threads + Wait + Sync, T: Turnstile + Sync>(
 #[test]
 fn jobs_are_served_by_two_workers(rt: HostRuntime) {
     for run in RUNS {
-        let writes = AtomicU64::new(0);
-        assert!(rt;
-            play_anew(&rt, rt.alloc(), &writes, &Open, run),
-            "{}",
-            run.shows
-        );
+        assert!(rt; play_anew(&rt, rt.alloc(), run), "{}", run.shows);
     }
 }

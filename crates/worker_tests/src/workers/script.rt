@@ -1,13 +1,19 @@
-//! A source of jobs by a list, and a run of it.
-ghost use Rattle.std.specs.Prelude.{◌≡◌};
+//! A source of jobs by a list, and runs of it.
+ghost use Rattle.std.specs.Prelude.{◌≡◌, length};
+ghost use Rattle.job_pool.specs.Lists.{Every};
+ghost use Rattle.worker_pool.specs.Tellers.{IsNewSeat};
+ghost use Rattle.worker_tests.specs.Seats.{HasRoom, kept};
 
-use crate::workers::streams::{Input, Output};
+use crate::workers::kept_ends::KeptEnds;
+use crate::workers::seats::TestSeat;
+use crate::workers::streams::{Counts, Input, Output};
 use node_session::{Ended, SessionFault};
 use std::alloc::Global;
-use std::sync::Wait;
-use std::sync::atomic::AtomicU64;
+use std::sync::{Arc, Wait};
 use std::thread::Threads;
-use worker_pool::{Closed, Job, JobFault, Jobs, Passes, Pool, PoolFault, Shared, Turnstile};
+use worker_pool::{
+    Closed, Job, JobFault, Jobs, Open, Passes, Pool, PoolFault, Served, Shared, Turnstile,
+};
 
 /// What a job reads, whether its writer fails, and how it ends.
 pub struct Line {
@@ -22,15 +28,13 @@ pub struct Line {
 pub struct Script<'a> {
     pub alloc: Global,
     pub shared: &'a Shared,
-    pub writes: &'a AtomicU64,
-    /// How many writers were ended with just their line's bytes.
-    pub well_ended: &'a AtomicU64,
+    pub counts: &'a Arc<Counts, Global>,
     pub lines: &'a [Line],
     pub fails: bool,
 }
 
 impl<'a> Jobs for Script<'a> {
-    type Job = Job<Input, Output<'a>>;
+    type Job = Job<Input, Output>;
 
     ghost use Rattle.std.specs.Prelude.{◌≡◌, ⊤, MatchResult, MatchOption};
     ghost use Rattle.worker_pool.specs.Serving.{IsForGates};
@@ -39,11 +43,14 @@ impl<'a> Jobs for Script<'a> {
         (λ next. MatchOption next ⊤ (IsForGates first.shared.now))
         (λ fault. ⊤) };
 
-    fn next(&mut self) -> Result<Option<Job<Input, Output<'a>>>, JobFault> {
+    fn next(&mut self) -> Result<Option<Job<Input, Output>>, JobFault> {
         let Some((line, rest)) = self.lines.split_first() else {
             return if self.fails { Err(JobFault) } else { Ok(None) };
         };
         let Ok(passes) = Passes::new(self.alloc, self.shared) else {
+            return Err(JobFault);
+        };
+        let Ok(counts) = Arc::try_clone(self.counts) else {
             return Err(JobFault);
         };
         self.lines = rest;
@@ -55,10 +62,9 @@ impl<'a> Jobs for Script<'a> {
             writer: Output {
                 held: Vec::new(self.alloc),
                 fails: line.fails,
-                writes: self.writes,
                 wanted: line.written,
-                well_ended: self.well_ended,
                 ended: 0,
+                counts,
             },
             passes,
         }))
@@ -66,12 +72,26 @@ impl<'a> Jobs for Script<'a> {
 }
 
 /// A run of these jobs on two workers.
-pub fn play<'a, X: Threads + Wait + Sync, T: Turnstile + Sync>(
+pub fn play<X: Threads + Wait + Sync, T: Turnstile + Sync>(
     rt: &X,
-    mut script: Script<'a>,
+    mut script: Script<'_>,
     turnstile: &T,
-) -> Result<Closed<Input, Output<'a>>, PoolFault> {
+) -> Result<Closed<Input, Output>, PoolFault> {
     let alloc = script.alloc;
     let shared = script.shared;
     Pool::run(rt, alloc, shared, &mut script, 2, turnstile)
+}
+
+/// The same on the workers of two seats, whose sinks are told each end as it comes.
+pub fn serve<X: Threads + Wait + Sync>(
+    rt: &X,
+    mut script: Script<'_>,
+    seats: Vec<TestSeat>,
+) -> Result<Served<KeptEnds>, PoolFault>
+    requires count { length seats.items ≡ 2 }
+    requires new { Every (IsNewSeat kept HasRoom) seats.items }
+{
+    let alloc = script.alloc;
+    let shared = script.shared;
+    Pool::serve(rt, alloc, shared, &mut script, seats, &Open)
 }

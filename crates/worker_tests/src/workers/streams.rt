@@ -1,8 +1,42 @@
-//! Readers and writers of the tests, which count how often they were ended.
+//! Readers and writers of the tests, and what they count.
+use std::alloc::Global;
 use std::io;
 use std::io::{ErrorKind, Read, Write};
+use std::sync::Arc;
 use std::sync::atomic::{AtomicU64, Ordering};
 use worker_pool::{EndRead, EndWrite};
+
+/// What came of the jobs of a run, as its streams and its sinks count it. A run that fails lets these go, and leaves the counts.
+#[derive(Drop)]
+pub struct Counts {
+    /// The writes to all writers, each of a reply.
+    pub writes: AtomicU64,
+    /// The writers that were ended with just the bytes that they were to hold.
+    pub well_ended: AtomicU64,
+    /// The ends that were told.
+    pub ends: AtomicU64,
+    /// The refusals that were told.
+    pub refusals: AtomicU64,
+}
+
+impl Counts {
+    /// Nothing came yet.
+    pub fn new() -> Counts {
+        Counts {
+            writes: AtomicU64::new(0),
+            well_ended: AtomicU64::new(0),
+            ends: AtomicU64::new(0),
+            refusals: AtomicU64::new(0),
+        }
+    }
+
+    /// Whether so many ends, each behind its writer's own, and so many refusals were told.
+    pub fn are_told(&self, (ends, refusals): (u64, u64)) -> bool {
+        self.well_ended.load(Ordering::SeqCst) == ends
+            && self.ends.load(Ordering::SeqCst) == ends
+            && self.refusals.load(Ordering::SeqCst) == refusals
+    }
+}
 
 /// Gives these bytes.
 #[derive(Drop)]
@@ -33,17 +67,16 @@ impl EndRead for Input {
 
 /// Takes all bytes and raises a number that others see, or fails at each write.
 #[derive(Drop)]
-pub struct Output<'a> {
+pub struct Output {
     pub held: Vec<u8>,
     pub fails: bool,
-    pub writes: &'a AtomicU64,
-    /// What it is to hold when it is ended, and a number that is raised where it does.
+    /// What it is to hold when it is ended.
     pub wanted: &'static [u8],
-    pub well_ended: &'a AtomicU64,
     pub ended: u32,
+    pub counts: Arc<Counts, Global>,
 }
 
-impl Write for Output<'_> {
+impl Write for Output {
     ghost use Rattle.std.specs.Prelude.{Some};
 
     ghost contents = { λ w. Some w.held.items };
@@ -53,7 +86,7 @@ impl Write for Output<'_> {
             return Err(io::Error::from(ErrorKind::ConnectionReset));
         }
         self.held.extend_from_slice(buf)?;
-        self.writes.fetch_add(1, Ordering::SeqCst);
+        self.counts.writes.fetch_add(1, Ordering::SeqCst);
         Ok(buf.len())
     }
 
@@ -62,10 +95,10 @@ impl Write for Output<'_> {
     }
 }
 
-impl EndWrite for Output<'_> {
+impl EndWrite for Output {
     fn ended(&mut self) {
         if self.held.as_slice() == self.wanted {
-            self.well_ended.fetch_add(1, Ordering::SeqCst);
+            self.counts.well_ended.fetch_add(1, Ordering::SeqCst);
         }
         self.ended = self.ended.saturating_add(1);
     }
