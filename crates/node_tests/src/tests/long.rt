@@ -22,9 +22,9 @@ const LONG: &[Session] = &[
         output: &[Part::Times(1200, PONG)],
         counts: &[Count::Reads(6001), Count::Unread(3999)],
     },
-    // 1,639 pings are 8,195 bytes: two reads of 4,096, one of three, and one that meets the end.
+    // 1,639 pings are 8,195 bytes: two reads of 4,080, one of 35, and one that meets the end.
     Session {
-        shows: "a read takes 4,096 bytes where they are there",
+        shows: "without lent room a read takes 4,080 bytes where they are there",
         input: &[Part::Times(1639, PING)],
         channel: Channel {
             pieces: (5000, 5000),
@@ -33,7 +33,7 @@ const LONG: &[Session] = &[
         },
         end: ended!(1639, 0),
         output: &[Part::Times(1639, PONG)],
-        counts: &[Count::Reads(4), Count::Largest(4096)],
+        counts: &[Count::Reads(4), Count::Largest(4080)],
     },
     // A put of 6,000 bytes on b/k, and a get of it. The 6,039 bytes of the replies go out by writes of one byte, each of
     // which is interrupted once.

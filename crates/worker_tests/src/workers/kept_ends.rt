@@ -35,11 +35,11 @@ impl KeptEnds {
 }
 
 impl EndSink<Input, Output> for KeptEnds {
-    ghost use Rattle.worker_tests.specs.Seats.{HasRoom, kept};
+    ghost use Rattle.std.specs.Prelude.{◌+◌, ◌≤◌, vec_len, vec_capacity};
 
-    ghost told = { kept };
+    ghost told = { λ sink. sink.ends.items };
 
-    ghost has_room = { HasRoom };
+    ghost has_room = { λ sink n. vec_len sink.ends + n ≤ vec_capacity sink.ends };
 
     fn make_room(&mut self, more: usize) -> bool {
         self.has_memory && self.ends.reserve(more).is_ok()

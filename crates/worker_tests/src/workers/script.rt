@@ -1,8 +1,7 @@
 //! A source of jobs by a list, and runs of it.
-ghost use Rattle.std.specs.Prelude.{◌≡◌, length};
+ghost use Rattle.std.specs.Prelude.{◌≡◌, ◌+◌, ◌≤◌, length, vec_len, vec_capacity};
 ghost use Rattle.job_pool.specs.Lists.{Every};
 ghost use Rattle.worker_pool.specs.Tellers.{IsNewSeat};
-ghost use Rattle.worker_tests.specs.Seats.{HasRoom, kept};
 
 use crate::workers::kept_ends::KeptEnds;
 use crate::workers::seats::TestSeat;
@@ -89,7 +88,8 @@ pub fn serve<X: Threads + Wait + Sync>(
     seats: Vec<TestSeat>,
 ) -> Result<Served<KeptEnds>, PoolFault>
     requires count { length seats.items ≡ 2 }
-    requires new { Every (IsNewSeat kept HasRoom) seats.items }
+    requires new { Every (IsNewSeat (λ sink. sink.ends.items)
+        (λ sink n. vec_len sink.ends + n ≤ vec_capacity sink.ends)) seats.items }
 {
     let alloc = script.alloc;
     let shared = script.shared;

@@ -1,8 +1,7 @@
 //! What the workers of [`Pool::serve`](worker_pool::Pool::serve) wait with over the streams of the tests, and are woken by.
-ghost use Rattle.std.specs.Prelude.{◌≡◌, length, IfOk};
+ghost use Rattle.std.specs.Prelude.{◌≡◌, ◌+◌, ◌≤◌, length, vec_len, vec_capacity, IfOk};
 ghost use Rattle.job_pool.specs.Lists.{Every};
 ghost use Rattle.worker_pool.specs.Tellers.{IsNewSeat};
-ghost use Rattle.worker_tests.specs.Seats.{HasRoom, kept};
 
 use crate::workers::kept_ends::KeptEnds;
 use crate::workers::streams::{Counts, Input, Output};
@@ -38,7 +37,8 @@ fn new_seat(
     has_memory: bool,
     counts: &Arc<Counts, Global>,
 ) -> Result<TestSeat, AllocError>
-    ensures { IfOk result (IsNewSeat kept HasRoom) }
+    ensures { IfOk result (IsNewSeat (λ sink. sink.ends.items)
+        (λ sink n. vec_len sink.ends + n ≤ vec_capacity sink.ends)) }
 {
     let parker = Parker::new(alloc)?;
     let unparker = parker.unparker().clone()?;
@@ -61,7 +61,8 @@ pub fn two_seats(
     counts: &Arc<Counts, Global>,
 ) -> Result<Vec<TestSeat>, AllocError>
     ensures count { IfOk result (λ seats. length seats.items ≡ 2) }
-    ensures new { IfOk result (λ seats. Every (IsNewSeat kept HasRoom) seats.items) }
+    ensures new { IfOk result (λ seats. Every (IsNewSeat (λ sink. sink.ends.items)
+        (λ sink n. vec_len sink.ends + n ≤ vec_capacity sink.ends)) seats.items) }
 {
     let mut seats = Vec::with_capacity(alloc, 2)?;
     seats.push(new_seat(alloc, has_memory, counts)?)?;
