@@ -37,6 +37,7 @@
 //! ```
 #![tactic(auto)]
 
+mod collect;
 mod desk;
 mod fault;
 mod jobs;
@@ -53,15 +54,19 @@ mod service;
 mod sink;
 mod sleepers;
 mod start;
+mod stations;
 mod submit;
 mod told;
 mod worker;
 
+pub use collect::{Finished, run, run_with};
 pub use fault::RunFault;
 pub use jobs::{JobFault, Jobs};
-pub use pool::{Finished, MAX_WAITING, run, run_at};
-pub use readiness::{Bell, Readiness, Station, Turn};
+pub use pool::{MAX_WAITING, run_at};
+pub use readiness::{Bell, Post, Readiness, Station, Turn};
+pub use rounds::{Rounds, Wake};
 pub use service::{Moved, Service};
 pub use sink::Sink;
+pub use sleepers::Wakes;
 pub use told::Told;
 pub use worker::NumberedEnd;

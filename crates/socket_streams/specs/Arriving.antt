@@ -6,20 +6,23 @@ use Rattle.gate_node.specs.Passes.{AreUnused}
 use Rattle.worker_pool.specs.declared.job.Job.{Job}
 use Rattle.worker_pool.specs.Serving.{IsForGates}
 
--- the gates that its connections are for, how many are accepted at most, whether an input may end that before, how many were given, and how many
--- were closed for want of memory
+-- the gates that its connections are for, how many are accepted at most, whether one counts that is closed for want of memory, whether an input
+-- may end that before, how many were given, and how many of those that count were closed
 pub record ArrivalsView : Type 0 where
   pub gates : Gates
   pub limit : Option ℕ
+  pub counts_refused : Bool
   pub can_stop : Bool
   pub given : ℕ
   pub refused : ℕ
 
--- of these, all but the numbers of connections are the same
+-- of these, all but the numbers of connections are the same, and where those that were closed don't count, their number too
 pub record IsSameSource (first last : ArrivalsView) : Type 0 where
   pub gates : last.gates ≡ first.gates
   pub limit : last.limit ≡ first.limit
+  pub counts_refused : last.counts_refused ≡ first.counts_refused
   pub can_stop : last.can_stop ≡ first.can_stop
+  pub uncounted : first.counts_refused ≡ false → last.refused ≡ first.refused
 
 module _ {I O : Type 0} where
   -- a connection by passes of these gates that have seen nothing

@@ -273,7 +273,7 @@ fn is_served(alloc: Global, outcome: &Outcome, port: u16, run: &Run) -> bool {
 }
 
 /// Whether the connections of a listener are served as a run says.
-fn serves<R: Log + Clock + Threads + Wait + Sync>(
+fn serves<R: Log + Clock + Net + Threads + Wait + Sync>(
     rt: &R,
     alloc: Global,
     listener: Failing<'_>,
