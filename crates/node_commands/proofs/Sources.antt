@@ -1,5 +1,5 @@
 -- What a listener gives as a source of connections, over many calls.
-use Rattle.std.proofs.Common.{◌≡◌, ◌∙◌, ℕ, ◌+◌, ◌≤◌, false, Some, List, [], ◌∷◌, length, ap, sym, subst, arith}
+use Rattle.std.proofs.Common.{◌≡◌, ◌∙◌, ℕ, ◌+◌, ◌≤◌, false, None, Some, List, [], ◌∷◌, length, ap, sym, subst, arith}
 use Rattle.std.specs.Prelude.{IfSome, Option}
 use Rattle.job_pool.specs.Giving.{Gave, GaveAll, GivesOnly}
 use Rattle.job_pool.specs.Lists.{Every}
@@ -14,20 +14,21 @@ same_twice first next last one two = record {
   limit = two.limit ∙ one.limit;
   counts_refused = two.counts_refused ∙ one.counts_refused;
   can_stop = two.can_stop ∙ one.can_stop;
-  uncounted = λ uncounted. two.uncounted (one.counts_refused ∙ uncounted) ∙ one.uncounted uncounted;
 }
+
+number_of : Option ℕ → ℕ
+number_of None = 0
+number_of (Some n) = n
 
 module _ {I O : Type 0} where
   pub keeps_source : (first : ArrivalsView) (jobs : List (Job I O)) (next : ArrivalsView) → Gave GivesConnection first jobs next → IsSameSource first next × (next.given ≡ first.given + length jobs)
   keeps_source first [] next is =
-      let same : next.given ≡ first.given = ap (λ v. v.given) is in
-      (
+      let same : next.given ≡ first.given = ap (λ v. v.given) is in (
         record {
           gates = ap (λ v. v.gates) is;
           limit = ap (λ v. v.limit) is;
           counts_refused = ap (λ v. v.counts_refused) is;
           can_stop = ap (λ v. v.can_stop) is;
-          uncounted = λ uncounted. ap (λ v. v.refused) is;
         },
         omega arith,
       )
@@ -52,13 +53,25 @@ module _ {I O : Type 0} where
   -- where it gave no more, as many were accepted as were to be, or it might have been stopped
   pub gave_all : (first : ArrivalsView) (jobs : List (Job I O)) (last : ArrivalsView) → GaveAll GivesConnection first jobs last
       → IsSameSource first last × (last.given ≡ first.given + length jobs) × (first.can_stop ≡ false → first.limit ≡ Some (last.given + last.refused))
+          × (first.counts_refused ≡ false → last.refused ≡ 0)
   gave_all first jobs last gave =
       let kept = keeps_source first jobs gave.0 gave.1 in
       let end = gave.2 in (
         same_twice first gave.0 last kept.0 end.0,
         end.1.0 ∙ kept.1,
         λ unstopped. sym kept.0.limit ∙ end.1.1 (kept.0.can_stop ∙ unstopped),
+        λ uncounted. end.1.2 (kept.0.counts_refused ∙ uncounted),
       )
+
+  -- where it could not be stopped and none counts that was closed, it gave as many as were to be
+  pub gave_just : (first : ArrivalsView) (jobs : List (Job I O)) (last : ArrivalsView) (n : ℕ)
+      → first.limit ≡ Some n → first.counts_refused ≡ false → first.can_stop ≡ false → first.given ≡ 0 → GaveAll GivesConnection first jobs last → length jobs ≡ n
+  gave_just first jobs last n limit uncounted unstopped none gave =
+      let all = gave_all first jobs last gave in
+      let given : last.given ≡ first.given + length jobs = all.1 in
+      let closed : last.refused ≡ 0 = all.3 uncounted in
+      let count : n ≡ last.given + last.refused = ap (λ o. number_of o) (sym limit ∙ all.2 unstopped) in
+      omega arith
 
 -- at most so many, where the limit is another one's
 pub within : (limit other : Option ℕ) → limit ≡ other → (n : ℕ) → IfSome limit (λ most. n ≤ most) → IfSome other (λ most. n ≤ most)

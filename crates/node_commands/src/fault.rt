@@ -5,9 +5,8 @@ ghost use Rattle.std.specs.IoError.{error_kind};
 ghost use Rattle.node_commands.specs.Lines.{serve_fault_text};
 
 use std::error::Error;
-use std::fmt;
-use std::io;
 use std::io::ErrorKind;
+use std::{fmt, io};
 
 /// Why serving stopped before all connections were served. All threads have been joined.
 #[derive(Clone, Copy, Debug, Drop, PartialEq, Eq)]

@@ -1,5 +1,5 @@
 //! Many connections by many threads.
-ghost use Rattle.std.specs.Prelude.{◌≤◌, length, IfOk};
+ghost use Rattle.std.specs.Prelude.{◌≡◌, ◌≤◌, length, IfOk};
 ghost use Rattle.node_commands.specs.Runs.{AreServed, AreConnectionsServed};
 
 use crate::fault::{ServeFault, setup_fault};
@@ -76,17 +76,22 @@ fn serve_over<T, L>(
     shared: &Shared,
     listener: &L,
     connections: u16,
+    workers: u16,
     stop: &Stop,
     waits: RunWaits,
 ) -> Result<Served, ServeFault>
 where
     T: Log + Clock + Net + Threads + Wait + Sync,
     L: OpenListener<Stream = TcpStream> + AsRawFd,
-    requires { (1 ≤ length waits.workers.items) × (length waits.workers.items ≤ 64) }
-    ensures { IfOk result (AreServed shared.now connections (length waits.workers.items)) }
+    requires workers { (1 ≤ workers) × (workers ≤ 64) }
+    requires waits { length waits.workers.items ≡ workers }
+    ensures { IfOk result (AreServed shared.now connections workers) }
 {
-    let RunWaits { accepting, workers } = waits;
-    let Ok(posts) = new_posts(rt, alloc, stop, workers) else {
+    let RunWaits {
+        accepting,
+        workers: waiting,
+    } = waits;
+    let Ok(posts) = new_posts(rt, alloc, stop, waiting) else {
         return Err(ServeFault::NoMemory);
     };
     let limits = Limits {
@@ -95,12 +100,11 @@ where
         can_stop: false,
         tries: Some(MAX_ACCEPT_TRIES),
     };
-    let mut arrivals =
-        match Arrivals::new(rt, alloc, listener, accepting, shared, stop, limits) {
-            Ok(arrivals) => arrivals,
-            Err(error) => return Err(setup_fault(&error)),
-        };
-    match Pool::run_with(rt, alloc, shared, &mut arrivals, posts, &Open) {
+    let mut arrivals = match Arrivals::new(rt, alloc, listener, accepting, shared, stop, limits) {
+        Ok(arrivals) => arrivals,
+        Err(error) => return Err(setup_fault(&error)),
+    };
+    match Pool::run_with(rt, alloc, shared, &mut arrivals, workers, posts, &Open) {
         Ok(served) => Ok(served),
         Err(fault) => Err(serve_fault(fault, of_connections(arrivals.wants_memory()))),
     }
@@ -166,6 +170,7 @@ where
         &shared,
         &listener,
         settings.connections,
+        settings.workers,
         &stop,
         waits,
     );

@@ -105,11 +105,10 @@ where
         can_stop,
         tries: None,
     };
-    let mut arrivals =
-        match Arrivals::new(rt, alloc, listener, accepting, shared, stop, limits) {
-            Ok(arrivals) => arrivals,
-            Err(error) => return Err(setup_fault(&error)),
-        };
+    let mut arrivals = match Arrivals::new(rt, alloc, listener, accepting, shared, stop, limits) {
+        Ok(arrivals) => arrivals,
+        Err(error) => return Err(setup_fault(&error)),
+    };
     match Pool::serve(rt, alloc, shared, &mut arrivals, seats, &Open) {
         Ok(served) => Ok(ServedUntil {
             served,

@@ -16,13 +16,12 @@ pub record ArrivalsView : Type 0 where
   pub given : ℕ
   pub refused : ℕ
 
--- of these, all but the numbers of connections are the same, and where those that were closed don't count, their number too
+-- of these, all but the numbers of connections are the same
 pub record IsSameSource (first last : ArrivalsView) : Type 0 where
   pub gates : last.gates ≡ first.gates
   pub limit : last.limit ≡ first.limit
   pub counts_refused : last.counts_refused ≡ first.counts_refused
   pub can_stop : last.can_stop ≡ first.can_stop
-  pub uncounted : first.counts_refused ≡ false → last.refused ≡ first.refused
 
 module _ {I O : Type 0} where
   -- a connection by passes of these gates that have seen nothing
@@ -30,10 +29,11 @@ module _ {I O : Type 0} where
     pub of_gates : IsForGates gates job
     pub unused : AreUnused job.passes
 
-  -- a connection, of which there is one more; none, where as many were accepted as are to be, or an input may have ended; or a fault
+  -- a connection, of which there is one more; none, where as many were accepted as are to be, or an input may have ended, and none was closed that
+  -- counts where none does; or a fault
   abbrev pub GivesNext : ArrivalsView → Result (Option (Job I O)) JobFault → ArrivalsView → Type 0
   GivesNext first (Ok (Some job)) last = IsNewConnection first.gates job × (last.given ≡ first.given + 1)
-  GivesNext first (Ok None) last = (last.given ≡ first.given) × (first.can_stop ≡ false → first.limit ≡ Some (last.given + last.refused))
+  GivesNext first (Ok None) last = (last.given ≡ first.given) × (first.can_stop ≡ false → first.limit ≡ Some (last.given + last.refused)) × (first.counts_refused ≡ false → last.refused ≡ 0)
   GivesNext first (Err fault) last = Unit {0}
 
   abbrev pub GivesConnection : ArrivalsView → Result (Option (Job I O)) JobFault → ArrivalsView → Type 0

@@ -66,7 +66,7 @@ pub struct Arrivals<'a, X, L> {
 }
 
 impl<'a, X, L> Model for Arrivals<'a, X, L> {
-    ghost use Rattle.std.specs.Prelude.{◌+◌, ◌<◌, ◌≤◌, ◌^◌, IfSome};
+    ghost use Rattle.std.specs.Prelude.{◌≡◌, ◌+◌, ◌<◌, ◌≤◌, ◌^◌, false, IfSome};
     ghost use Rattle.socket_streams.specs.Arriving.{ArrivalsView};
 
     ghost Value = { ArrivalsView };
@@ -81,7 +81,8 @@ impl<'a, X, L> Model for Arrivals<'a, X, L> {
     } };
 
     ghost invariant = { λ a. (a.given + a.refused < 2 ^ 64)
-        × IfSome a.limits.connections (λ limit. a.given + a.refused ≤ limit) };
+        × IfSome a.limits.connections (λ limit. a.given + a.refused ≤ limit)
+        × (a.limits.counts_refused ≡ false → a.refused ≡ 0) };
 }
 
 /// Has a listener not wait, and its connections reported.
@@ -290,6 +291,18 @@ where
         }
     }
 
+    /// Counts a connection that was closed for want of memory, where it counts.
+    fn count_refused(&mut self)
+        requires room { self.old.given + self.old.refused + 1 < 2 ^ 64 }
+        requires below { IfSome self.old.limit (λ limit. self.old.given + self.old.refused < limit) }
+        ensures same { IsSameSource self.old self.new }
+        ensures given { self.new.given ≡ self.old.given }
+    {
+        if self.limits.counts_refused {
+            self.refused += 1;
+        }
+    }
+
     /// The job of a connection that was accepted from `peer`, which is logged and counted. None where it had to be closed.
     fn take(&mut self, stream: TcpStream, peer: SocketAddr) -> Option<Job<RequestHalf, ReplyHalf>>
         requires room { self.old.given + self.old.refused + 1 < 2 ^ 64 }
@@ -306,9 +319,7 @@ where
             self.given += 1;
             self.failures = 0;
         } else {
-            if self.limits.counts_refused {
-                self.refused += 1;
-            }
+            self.count_refused();
             log_refused(self.rt, peer);
         }
         job

@@ -69,11 +69,7 @@ fn new_worker<X: Net>(
 }
 
 /// What the threads of a run of so many workers wait with, and what stops the run. Refused where memory is, or a descriptor.
-pub fn new_run_waits<X: Net>(
-    net: &X,
-    alloc: Global,
-    workers: u16,
-) -> io::Result<(RunWaits, Stop)>
+pub fn new_run_waits<X: Net>(net: &X, alloc: Global, workers: u16) -> io::Result<(RunWaits, Stop)>
     ensures { IfOk result (λ made. length made.0.workers.items ≡ workers) }
 {
     let (accepting, waker) = new_waits(net, alloc)?;

@@ -7,8 +7,9 @@
 //! partition is diverted ([`replies_are_at_positions`]). With the ends come the totals of what these sessions counted, each session once
 //! (`specs/Summing`: `SumsSessions`), and the tally of each primary at the end of that history.
 //!
-//! [`Pool::serve`] serves the jobs of a source that may never end, and keeps no end: each worker's sink is told each end as it comes, with the promise of that
-//! session (`specs/Telling`: `IsServedTo`, `TellsSource`), and a worker has as many sessions open as its readiness has it take.
+//! [`Pool::run_with`] is the same by workers that have as many sessions open as their readiness has them take. So has [`Pool::serve`], for the jobs
+//! of a source that may never end; it keeps no end: each worker's sink is told each end as it comes, with the promise of that session
+//! (`specs/Telling`: `IsServedTo`, `TellsSource`).
 //!
 //! What it costs: what a run of `job_pool` costs, the book's lock once for each session, and a thread for each worker. A
 //! tally is one look under a right to read, and a comparison of two numbers for each end.

@@ -117,6 +117,7 @@ fn run_by<X, J, I, O, T, Y, B, G, P, D, E, R>(
     alloc: Global,
     shared: &Shared,
     jobs: &mut J,
+    workers: u16,
     posts: Vec<Post<Shown<Y>, B>>,
     wakes: Wakes,
     turnstile: &T,
@@ -135,7 +136,8 @@ where
     D: Ledger + Send + Sync,
     E: Ledger + Send + Sync,
     R: Ledger + Send + Sync,
-    requires workers { (1 ≤ length posts.items) × (length posts.items ≤ 64) }
+    requires workers { 1 ≤ workers }
+    requires posts { length posts.items ≡ workers }
     requires jobs { GivesOnly J.gives (IsForGates shared.now) jobs.old }
     requires gets { (blanks.gets.name ≡ G.name) × (blanks.gets.parts ≡ G.parts) }
     requires puts { (blanks.puts.name ≡ P.name) × (blanks.puts.parts ≡ P.parts) }
@@ -144,14 +146,11 @@ where
     requires reaps { (blanks.reaps.name ≡ R.name) × (blanks.reaps.parts ≡ R.parts) }
     requires parts { AllAre SHARES G.parts P.parts D.parts E.parts R.parts }
     ensures served { IfOk result (λ closed.
-        ServesSource I.remaining O.contents shared.now J.gives (length posts.items)
+        ServesSource I.remaining O.contents shared.now J.gives workers
         jobs.old closed jobs.new) }
     ensures fault { IfErr result (λ fault.
         LeavesSource J.gives I.remaining O.contents shared.now fault jobs.old jobs.new) }
 {
-    let Ok(workers) = u16::try_from(posts.len()) else {
-        unreachable!()
-    };
     let Ok((book, rest, stocks)) = open_stocks::<G, P, D, E, R>(alloc, workers, SHARES, blanks)
     else {
         return Err(PoolFault::NoMemory);
@@ -232,6 +231,7 @@ impl Pool {
             alloc,
             shared,
             jobs,
+            workers,
             posts,
             Wakes::All,
             turnstile,
@@ -239,7 +239,7 @@ impl Pool {
         )
     }
 
-    /// The same by a worker at each of these posts, of which there are 1 to 64. The calling thread hands each job to the worker with the least load, by
+    /// The same by a worker at each of these posts. The calling thread hands each job to the worker with the least load, by
     /// its bell; how many sessions a worker has open, and which of them has its turn, its readiness says.
     ///
     /// It returns if each call of the source and of the turnstile does, and each session is over after finitely many turns.
@@ -248,6 +248,7 @@ impl Pool {
         alloc: Global,
         shared: &Shared,
         jobs: &mut J,
+        workers: u16,
         posts: Vec<Post<Shown<Y>, B>>,
         turnstile: &T,
     ) -> Result<Closed<I, O>, PoolFault>
@@ -259,10 +260,11 @@ impl Pool {
         T: Turnstile + Sync,
         Y: StreamReadiness<I, O> + Drop + Send,
         B: Bell + Drop,
-        requires workers { (1 ≤ length posts.items) × (length posts.items ≤ 64) }
+        requires workers { (1 ≤ workers) × (workers ≤ 64) }
+        requires posts { length posts.items ≡ workers }
         requires jobs { GivesOnly J.gives (IsForGates shared.now) jobs.old }
         ensures served { IfOk result (λ closed.
-            ServesSource I.remaining O.contents shared.now J.gives (length posts.items)
+            ServesSource I.remaining O.contents shared.now J.gives workers
             jobs.old closed jobs.new) }
         ensures fault { IfErr result (λ fault.
             LeavesSource J.gives I.remaining O.contents shared.now fault jobs.old jobs.new) }
@@ -272,6 +274,7 @@ impl Pool {
             alloc,
             shared,
             jobs,
+            workers,
             posts,
             Wakes::LeastLoad,
             turnstile,
