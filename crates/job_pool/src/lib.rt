@@ -13,8 +13,8 @@
 //! whether or not it ever returns.
 //!
 //! What it costs: a job goes through one queue of [`MAX_WAITING`] places, is moved and not copied, and takes no lock. In `run` all
-//! workers are woken after each push, and a worker has one job open; in `run_at` a job is meant for the worker whose [`Bell`] tells the
-//! least load, and that one alone is woken. Where the queue is full the leading thread sleeps, and a worker that took a task wakes it.
+//! workers are woken after each push, and a worker has one job open ([`Rounds`]); in `run_at` a job is meant for the worker whose [`Bell`]
+//! tells the least load, and that one alone is woken; [`run_with`] is `run` over any readiness. Where the queue is full the leading thread sleeps, and a worker that took a task wakes it.
 //! A run takes memory for the queue, a thread for each worker and a parker for the leading thread; `run` also for a parker for each
 //! worker, and a place for each end, twice. A worker takes memory for each job that it has open.
 //!
@@ -37,6 +37,7 @@
 //! ```
 #![tactic(auto)]
 
+mod collect;
 mod desk;
 mod fault;
 mod jobs;
@@ -53,15 +54,19 @@ mod service;
 mod sink;
 mod sleepers;
 mod start;
+mod stations;
 mod submit;
 mod told;
 mod worker;
 
+pub use collect::{Finished, run, run_with};
 pub use fault::RunFault;
 pub use jobs::{JobFault, Jobs};
-pub use pool::{Finished, MAX_WAITING, run, run_at};
-pub use readiness::{Bell, Readiness, Station, Turn};
+pub use pool::{MAX_WAITING, run_at};
+pub use readiness::{Bell, Post, Readiness, Station, Turn};
+pub use rounds::{Rounds, Wake};
 pub use service::{Moved, Service};
 pub use sink::Sink;
+pub use sleepers::Wakes;
 pub use told::Told;
 pub use worker::NumberedEnd;

@@ -1,7 +1,7 @@
-//! A run of the pool.
+//! A run of the pool, over any sinks.
 ghost use Rattle.std.specs.Prelude.{◌≡◌, ◌<◌, [], length, map, IfOk, IfErr};
 ghost use Rattle.crossbeam_queue.specs.Passes.{view, IsPassOf};
-ghost use Rattle.job_pool.specs.Giving.{AllServedOnce, GivesOnly, Leaves, ServedThenFailed};
+ghost use Rattle.job_pool.specs.Giving.{GivesOnly, Leaves};
 ghost use Rattle.job_pool.specs.Lists.{Every};
 ghost use Rattle.job_pool.specs.Queue.{leader};
 ghost use Rattle.job_pool.specs.Telling.{HasPlaces, IsEmpty, TellsEachOnce, TellsGiven, ToldThenFailed};
@@ -12,11 +12,9 @@ use crate::fault::RunFault;
 use crate::jobs::Jobs;
 use crate::join::{Child, join_all, let_go};
 use crate::lent::Lent;
-use crate::order::in_order;
 use crate::queue::{Accepts, JobQueue, QueuePass};
 use crate::readiness::{Bell, Readiness, Station};
 use crate::rooms::Rooms;
-use crate::rounds::stations_of;
 use crate::service::Service;
 use crate::sink::Sink;
 use crate::sleepers::{Sleepers, Wakes};
@@ -33,20 +31,11 @@ use std::thread::Threads;
 /// How many jobs wait in the queue at most, unless there are more workers: then as many as these.
 pub const MAX_WAITING: usize = 1024;
 
-/// What a run leaves.
-#[derive(Drop)]
-pub struct Finished<E, W> {
-    /// One end for each job, in the order in which the jobs were given.
-    pub ends: Vec<E>,
-    /// The states of the workers, in the order in which they were handed in.
-    pub workers: Vec<W>,
-}
-
 /// What the workers left, and how the source stopped.
 #[derive(Drop)]
-struct Joined<W, K> {
-    told: Told<W, K>,
-    stopped: Result<(), RunFault>,
+pub(crate) struct Joined<W, K> {
+    pub(crate) told: Told<W, K>,
+    pub(crate) stopped: Result<(), RunFault>,
 }
 
 /// Gives the jobs to the workers that were started, and a stop mark to each; then joins them. What they took has to be all that was given: so
@@ -228,7 +217,7 @@ where
 }
 
 /// A run over a source that is lent.
-fn run_lent<S, G, K, D, B, T>(
+pub(crate) fn run_lent<S, G, K, D, B, T>(
     rt: &T,
     alloc: Global,
     service: &S,
@@ -256,65 +245,6 @@ where
         rt, alloc, service, lent, stations, wakes,
     );
     joined
-}
-
-/// Serves all jobs of a source, each once, by as many workers as there are states.
-///
-/// The ends are in the order of the jobs, and the workers' states, each as its worker left it, in the order in which they were
-/// handed in. Each job was served in one turn of a worker, and the turns of one worker lead from its first state to its
-/// last. There has to be a worker, and each job that the source may give is one that the service takes. A worker has one job open at a time,
-/// and takes its steps until it is over: where the job would have to wait it is told that it may not.
-///
-/// Where the run ends by a fault, the workers that were started have been joined, and their states and the ends are let go:
-///
-/// - `NoThread`: the system refused a thread. No job was taken from the source.
-/// - `JobsFailed`: the source gave some jobs and then a fault. Each of the jobs that it gave was served once.
-/// - `NoMemory`: memory was refused, to the run or to a worker for a job or its end, which was then not served. The source gave some
-///   jobs, or all of them, or some and then a fault.
-///
-/// It waits for the workers, and they for jobs. It returns if each call of `next` does, and each job is over after finitely many steps.
-pub fn run<S, G, T>(
-    rt: &T,
-    alloc: Global,
-    service: &S,
-    jobs: &mut G,
-    workers: Vec<S::Worker>,
-) -> Result<Finished<S::End, S::Worker>, RunFault>
-where
-    S: Service,
-    G: Jobs<Job = S::Job>,
-    T: Threads + Wait + Sync,
-    requires some { 0 < length workers.items }
-    requires jobs { GivesOnly G.gives (S.accepts service.now) jobs.old }
-    ensures served { IfOk result (λ done.
-        AllServedOnce G.gives (S.serves service.now) jobs.old
-        workers.items done.ends.items done.workers.items jobs.new) }
-    ensures fault { IfErr result (λ fault. Leaves G.gives fault jobs.old jobs.new) }
-
-    // Where the source failed, each job that it gave was served once.
-    ensures failed { IfErr result (λ fault. fault ≡ JobsFailed
-        → ServedThenFailed G.gives (S.serves service.now) jobs.old workers.items jobs.new) }
-{
-    let Ok(stations) = stations_of::<S>(alloc, workers) else {
-        return Err(RunFault::NoMemory);
-    };
-    let Joined { told, stopped } = match run_lent(rt, alloc, service, jobs, stations, Wakes::All) {
-        Ok(joined) => joined,
-        Err(fault) => return Err(fault),
-    };
-    let Told {
-        workers,
-        sinks,
-        given,
-        refused: _,
-    } = told;
-    match in_order(alloc, sinks, given) {
-        Ok(ends) => match stopped {
-            Ok(()) => Ok(Finished { ends, workers }),
-            Err(fault) => Err(fault),
-        },
-        Err(_) => Err(RunFault::NoMemory),
-    }
 }
 
 /// Serves all jobs of a source, each once, by a worker at each of these stations, and keeps no end: each is told the sink of the worker that served

@@ -51,3 +51,10 @@ pub struct Station<W, K, D, B> {
     pub readiness: D,
     pub bell: B,
 }
+
+/// What a worker waits with, and what wakes it: its station without the rest.
+#[derive(Drop)]
+pub struct Post<D, B> {
+    pub readiness: D,
+    pub bell: B,
+}

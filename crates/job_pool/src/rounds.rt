@@ -1,12 +1,8 @@
 //! What a worker waits with that has one job open at a time.
-ghost use Rattle.std.specs.Prelude.{◌≡◌, map, IfOk};
-ghost use Rattle.job_pool.specs.Lists.{Every};
-ghost use Rattle.job_pool.specs.Sinks.{HasRoom, kept};
-ghost use Rattle.job_pool.specs.Workers.{IsNew, worker_of};
+ghost use Rattle.std.specs.Prelude.{◌≡◌, length, IfOk};
 
-use crate::readiness::{Bell, Readiness, Station, Turn};
+use crate::readiness::{Bell, Post, Readiness, Turn};
 use crate::service::{Moved, Service};
-use crate::sink::Collected;
 use crossbeam_utils::sync::{Parker, Unparker};
 use std::alloc::{AllocError, Global};
 use std::sync::Wait;
@@ -14,7 +10,7 @@ use std::sync::Wait;
 /// All slots, one after another, where nothing is waited for but a task: a stream waits by itself, and so one job is open at a time, or who waits in
 /// it would keep the others.
 #[derive(Drop)]
-pub(crate) struct Rounds {
+pub struct Rounds {
     parker: Parker,
     next: usize,
     slots: usize,
@@ -22,13 +18,13 @@ pub(crate) struct Rounds {
 
 /// Wakes a worker that waits for a task. One that is awake does not sleep the next time.
 #[derive(Drop)]
-pub(crate) struct Wake {
+pub struct Wake {
     unparker: Unparker,
 }
 
 impl Rounds {
     /// There is no slot.
-    pub(crate) fn new(alloc: Global) -> Result<(Rounds, Wake), AllocError> {
+    pub fn new(alloc: Global) -> Result<(Rounds, Wake), AllocError> {
         let parker = Parker::new(alloc)?;
         let unparker = parker.unparker().clone()?;
         let rounds = Rounds {
@@ -38,40 +34,14 @@ impl Rounds {
         };
         Ok((rounds, Wake { unparker }))
     }
-}
 
-/// A station for each of these workers, which keeps all ends.
-pub(crate) fn stations_of<S: Service>(
-    alloc: Global,
-    workers: Vec<S::Worker>,
-) -> Result<Vec<Station<S::Worker, Collected<S::End>, Rounds, Wake>>, AllocError>
-    ensures workers { IfOk result (λ stations. map worker_of stations.items ≡ workers.items) }
-    ensures new { IfOk result (λ stations.
-        Every (IsNew kept HasRoom) stations.items) }
-{
-    let mut stations = Vec::with_capacity(alloc, workers.len())?;
-    for worker in workers {
-        let (readiness, bell) = Rounds::new(alloc)?;
-        stations.push_reserved(Station {
-            worker,
-            sink: Collected::new(alloc),
-            readiness,
-            bell,
-        });
-    }
-    Ok(stations)
-}
-
-impl<S: Service> Readiness<S> for Rounds {
-    fn takes(&mut self, is_idle: bool) -> bool {
-        is_idle
-    }
-
-    fn begin(&mut self, slot: usize, _opened: &S::Open) {
+    /// A job was opened in this slot.
+    pub fn add(&mut self, slot: usize) {
         self.slots = self.slots.max(slot.saturating_add(1));
     }
 
-    fn next(&mut self) -> Option<Turn> {
+    /// The next slot of the round, which may not wait. None where all had their turn.
+    pub fn next_turn(&mut self) -> Option<Turn> {
         if self.next < self.slots {
             let slot = self.next;
             self.next = slot.saturating_add(1);
@@ -85,11 +55,42 @@ impl<S: Service> Readiness<S> for Rounds {
         }
     }
 
+    /// Sleeps until the worker was woken since the last sleep ended.
+    pub fn sleep<T: Wait>(&self, rt: &T) {
+        self.parker.park(rt);
+    }
+}
+
+/// So many posts, each of a worker that has one job open at a time.
+pub(crate) fn new_rounds(alloc: Global, count: usize) -> Result<Vec<Post<Rounds, Wake>>, AllocError>
+    ensures { IfOk result (λ posts. length posts.items ≡ count) }
+{
+    let mut posts = Vec::new(alloc);
+    for _ in 0..count {
+        let (readiness, bell) = Rounds::new(alloc)?;
+        posts.push(Post { readiness, bell })?;
+    }
+    Ok(posts)
+}
+
+impl<S: Service> Readiness<S> for Rounds {
+    fn takes(&mut self, is_idle: bool) -> bool {
+        is_idle
+    }
+
+    fn begin(&mut self, slot: usize, _opened: &S::Open) {
+        self.add(slot);
+    }
+
+    fn next(&mut self) -> Option<Turn> {
+        self.next_turn()
+    }
+
     fn after(&mut self, _slot: usize, _moved: Moved) {}
 
     fn wait<T: Wait>(&mut self, rt: &T, is_idle: bool) {
         if is_idle {
-            self.parker.park(rt);
+            self.sleep(rt);
         }
     }
 }

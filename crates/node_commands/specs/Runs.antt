@@ -12,7 +12,7 @@ use Rattle.worker_pool.specs.Run.{ServesAll}
 use Rattle.worker_pool.specs.Telling.{TellsAll}
 use Rattle.socket_streams.specs.declared.halves.RequestHalf.{RequestHalf}
 use Rattle.socket_streams.specs.declared.halves.ReplyHalf.{ReplyHalf}
-use Rattle.node_commands.specs.Sources.{IsNewConnection}
+use Rattle.socket_streams.specs.Arriving.{IsNewConnection}
 use Rattle.node_commands.specs.declared.serving.Settings.{Settings}
 use Rattle.node_commands.specs.declared.until.ServedUntil.{ServedUntil}
 use Rattle.node_commands.specs.declared.until.UntilSettings.{UntilSettings}

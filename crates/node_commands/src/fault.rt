@@ -1,16 +1,18 @@
 //! Why serving stopped.
 
-ghost use Rattle.std.specs.Prelude.{◌≡◌};
+ghost use Rattle.std.specs.Prelude.{◌≡◌, ◌≢◌};
+ghost use Rattle.std.specs.IoError.{error_kind};
 ghost use Rattle.node_commands.specs.Lines.{serve_fault_text};
 
 use std::error::Error;
-use std::fmt;
+use std::io::ErrorKind;
+use std::{fmt, io};
 
 /// Why serving stopped before all connections were served. All threads have been joined.
 #[derive(Clone, Copy, Debug, Drop, PartialEq, Eq)]
 pub enum ServeFault {
     /// The system gave no further connection: the listener failed, or for an hour there was no descriptor or no memory for one.
-    /// Those that were accepted before were served. In words: `accept failed`.
+    /// Those that were accepted before were ended. In words: `accept failed`.
     AcceptFailed,
     /// The system refused a thread, or a descriptor that a thread waits by. No connection was accepted. In words: `no thread`.
     NoThread,
@@ -47,3 +49,17 @@ impl fmt::Display for ServeFault {
 }
 
 impl Error for ServeFault {}
+
+/// Why what a thread waits with couldn't be made: for want of memory, of the process or of the system, or of a descriptor.
+pub(crate) fn setup_fault(error: &io::Error) -> ServeFault
+    ensures memory { error_kind error.now ≡ ErrorKind.OutOfMemory →
+        result ≡ ServeFault.NoMemory }
+    ensures descriptor { error_kind error.now ≢ ErrorKind.OutOfMemory →
+        result ≡ ServeFault.NoThread }
+{
+    if error.kind() == ErrorKind::OutOfMemory {
+        ServeFault::NoMemory
+    } else {
+        ServeFault::NoThread
+    }
+}

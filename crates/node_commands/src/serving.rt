@@ -1,17 +1,19 @@
 //! Many connections by many threads.
-ghost use Rattle.std.specs.Prelude.{◌≤◌, IfOk};
+ghost use Rattle.std.specs.Prelude.{◌≡◌, ◌≤◌, length, IfOk};
 ghost use Rattle.node_commands.specs.Runs.{AreServed, AreConnectionsServed};
 
-use crate::connections::Connections;
-use crate::fault::ServeFault;
+use crate::fault::{ServeFault, setup_fault};
 use crate::gates::new_shared;
-use crate::halves::{ReplyHalf, RequestHalf};
 use crate::lines::{report, write_address};
 use log::{Log, info, warn};
 use ring_map::Ring;
+use socket_streams::{
+    Arrivals, Limits, ReplyHalf, RequestHalf, RunWaits, Stop, new_posts, new_run_waits,
+};
 use std::alloc::Global;
 use std::io::Write;
-use std::net::{OpenListener, TcpStream};
+use std::net::{Net, OpenListener, TcpStream};
+use std::os::fd::AsRawFd;
 use std::rt::Clock;
 use std::sync::Wait;
 use std::thread::Threads;
@@ -25,7 +27,7 @@ pub type Served = Closed<RequestHalf, ReplyHalf>;
 pub struct Settings {
     /// How many connections are served, from 1 on.
     pub connections: u16,
-    /// How many threads serve, each one connection at a time: from 1 to 64.
+    /// How many threads serve, each many connections: from 1 to 64.
     pub workers: u16,
     /// The partitions of the keys.
     pub ring: Ring,
@@ -35,6 +37,9 @@ pub struct Settings {
     pub sweep: u32,
 }
 
+/// How often a connection is accepted at most where that gives none: where the system has no descriptor or no memory for it, for an hour.
+pub const MAX_ACCEPT_TRIES: u32 = 360_000;
+
 /// Logs how each connection ended.
 fn log_ends<L: Log>(rt: &L, ends: &[End<RequestHalf, ReplyHalf>]) {
     for end in ends {
@@ -42,6 +47,15 @@ fn log_ends<L: Log>(rt: &L, ends: &[End<RequestHalf, ReplyHalf>]) {
             Ok(_) => info!(rt; "connection from {} ended", end.reader.peer()),
             Err(fault) => warn!(rt; "connection from {} ended: {fault}", end.reader.peer()),
         }
+    }
+}
+
+/// Why there was no further connection.
+fn of_connections(wants_memory: bool) -> ServeFault {
+    if wants_memory {
+        ServeFault::NoMemory
+    } else {
+        ServeFault::AcceptFailed
     }
 }
 
@@ -55,7 +69,7 @@ pub(crate) fn serve_fault(fault: PoolFault, of_connections: ServeFault) -> Serve
     }
 }
 
-/// Serves the next connections of a listener, so many, over the gates of a run.
+/// Serves the next connections of a listener, so many, over the gates of a run, by workers that wait with these.
 fn serve_over<T, L>(
     rt: &T,
     alloc: Global,
@@ -63,24 +77,36 @@ fn serve_over<T, L>(
     listener: &L,
     connections: u16,
     workers: u16,
+    stop: &Stop,
+    waits: RunWaits,
 ) -> Result<Served, ServeFault>
 where
-    T: Log + Clock + Threads + Wait + Sync,
-    L: OpenListener<Stream = TcpStream>,
-    requires { (1 ≤ workers) × (workers ≤ 64) }
+    T: Log + Clock + Net + Threads + Wait + Sync,
+    L: OpenListener<Stream = TcpStream> + AsRawFd,
+    requires workers { (1 ≤ workers) × (workers ≤ 64) }
+    requires waits { length waits.workers.items ≡ workers }
     ensures { IfOk result (AreServed shared.now connections workers) }
 {
-    let mut source = Connections {
-        rt,
-        alloc,
-        listener,
-        shared,
-        left: connections,
-        fault: ServeFault::AcceptFailed,
+    let RunWaits {
+        accepting,
+        workers: waiting,
+    } = waits;
+    let Ok(posts) = new_posts(rt, alloc, stop, waiting) else {
+        return Err(ServeFault::NoMemory);
     };
-    match Pool::run(rt, alloc, shared, &mut source, workers, &Open) {
+    let limits = Limits {
+        connections: Some(u64::from(connections)),
+        counts_refused: false,
+        can_stop: false,
+        tries: Some(MAX_ACCEPT_TRIES),
+    };
+    let mut arrivals = match Arrivals::new(rt, alloc, listener, accepting, shared, stop, limits) {
+        Ok(arrivals) => arrivals,
+        Err(error) => return Err(setup_fault(&error)),
+    };
+    match Pool::run_with(rt, alloc, shared, &mut arrivals, workers, posts, &Open) {
         Ok(served) => Ok(served),
-        Err(fault) => Err(serve_fault(fault, source.fault)),
+        Err(fault) => Err(serve_fault(fault, of_connections(arrivals.wants_memory()))),
     }
 }
 
@@ -94,8 +120,7 @@ fn announce<L: OpenListener, W: Write>(listener: &L, writer: &mut W) {
 
 /// Serves the next connections of a listener, so many, by threads, and returns what came of them when all have ended.
 ///
-/// Each connection is served by one thread, to its end; where more come than there are threads, they wait. There is one history of each
-/// vnode, legal, and each reply of each connection is at a position of it, which is never before another position that this connection
+/// Each connection is served by one thread, to its end, each as it is ready; a thread has many. There is one history of each vnode, legal, and each reply of each connection is at a position of it, which is never before another position that this connection
 /// had a reply at. So what two connections are told of a key fits together. The vnode's tally is of the whole of that history, and the
 /// totals are the sums of what the sessions counted. Order in real time, and order between vnodes, aren't said.
 ///
@@ -104,12 +129,12 @@ fn announce<L: OpenListener, W: Write>(listener: &L, writer: &mut W) {
 /// fault, after the last one has ended.
 ///
 /// A session that ends by a fault (a failed read or write, a bad length, too many reads, or no memory for what it reads or answers) ends
-/// its own connection alone. A new one for which memory is refused is closed and logged, and isn't one of those that are served. Serving as
-/// a whole ends, after the connections that were accepted, where the listener fails; and it ends where memory is refused to the run, or
-/// for the outcome of a connection, where the system refuses a thread, and where a total has no room ([`ServeFault`]).
+/// its own connection alone. A new one for which memory is refused is closed and logged, and isn't one of those that are served. Where the
+/// listener fails, the connections that were accepted are ended, and serving ends. It ends too where memory is refused to the run, or for
+/// the outcome of a connection, where the system refuses a thread, and where a total has no room ([`ServeFault`]).
 ///
 /// Where the system has no descriptor or no memory for a further connection, the log has a warning, and it is accepted again every 10 ms
-/// until there is one, [`MAX_ACCEPT_TRIES`](crate::MAX_ACCEPT_TRIES) times at most.
+/// until there is one, [`MAX_ACCEPT_TRIES`] times at most.
 ///
 /// The outcome keeps each connection's end: with its passes about 2,300 bytes on a ring of 64, 150 MB for 65,535. At the end each end's
 /// passes are compared with a look at their vnode, one after another.
@@ -121,8 +146,8 @@ pub fn serve_on<T, L, W>(
     writer: &mut W,
 ) -> Result<Served, ServeFault>
 where
-    T: Log + Clock + Threads + Wait + Sync,
-    L: OpenListener<Stream = TcpStream> + Drop,
+    T: Log + Clock + Net + Threads + Wait + Sync,
+    L: OpenListener<Stream = TcpStream> + AsRawFd + Drop,
     W: Write,
     requires workers { (1 ≤ settings.now.workers) × (settings.now.workers ≤ 64) }
     requires run { 1 ≤ settings.now.run }
@@ -134,6 +159,10 @@ where
     let Some(shared) = new_shared(alloc, settings.ring, settings.run, settings.sweep) else {
         return Err(ServeFault::NoMemory);
     };
+    let (waits, stop) = match new_run_waits(rt, alloc, settings.workers) {
+        Ok(made) => made,
+        Err(error) => return Err(setup_fault(&error)),
+    };
     announce(&listener, writer);
     let outcome = serve_over(
         rt,
@@ -142,6 +171,8 @@ where
         &listener,
         settings.connections,
         settings.workers,
+        &stop,
+        waits,
     );
     if let Ok(served) = &outcome {
         log_ends(rt, served.ends.as_slice());

@@ -1,18 +1,17 @@
 //! Serving for as long as is wanted.
 
-ghost use Rattle.std.specs.Prelude.{◌≡◌, ◌≢◌, ◌≤◌, None, Some, false, length, IfOk, IfSome};
-ghost use Rattle.std.specs.IoError.{error_kind};
+ghost use Rattle.std.specs.Prelude.{◌≡◌, ◌≤◌, None, Some, false, length, IfOk, IfSome};
 ghost use Rattle.node_commands.specs.Runs.{AreTold, IsServedUntil};
 
-use crate::fault::ServeFault;
+use crate::fault::{ServeFault, setup_fault};
 use crate::gates::new_shared;
 use crate::lines::report;
 use crate::serving::serve_fault;
 use log::Log;
 use ring_map::Ring;
-use socket_streams::{Arrivals, LogSink, RunWaits, Stop, new_run_waits, new_seats};
+use socket_streams::{Arrivals, Limits, LogSink, RunWaits, Stop, new_run_waits, new_seats};
 use std::alloc::Global;
-use std::io::{ErrorKind, Read, Write};
+use std::io::{Read, Write};
 use std::net::{Net, TcpListener};
 use std::rt::Clock;
 use std::sync::Wait;
@@ -53,20 +52,6 @@ fn announce<W: Write>(listener: &TcpListener, writer: &mut W) -> io::Result<()> 
     let address = listener.local_addr()?;
     writeln!(writer, "listening {address}")?;
     writer.flush()
-}
-
-/// Why what a thread waits with couldn't be made: for want of memory, of the process or of the system, or of a descriptor.
-fn setup_fault(error: &io::Error) -> ServeFault
-    ensures memory { error_kind error.now ≡ ErrorKind.OutOfMemory →
-        result ≡ ServeFault.NoMemory }
-    ensures descriptor { error_kind error.now ≢ ErrorKind.OutOfMemory →
-        result ≡ ServeFault.NoThread }
-{
-    if error.kind() == ErrorKind::OutOfMemory {
-        ServeFault::NoMemory
-    } else {
-        ServeFault::NoThread
-    }
 }
 
 /// Starts a thread that raises the stop at the end of an input, if there is one.
@@ -114,16 +99,13 @@ where
     let Ok(seats) = new_seats(rt, alloc, stop, workers, settings.idle_seconds) else {
         return Err(ServeFault::NoMemory);
     };
-    let mut arrivals = match Arrivals::new(
-        rt,
-        alloc,
-        listener,
-        accepting,
-        shared,
-        stop,
-        settings.connections,
+    let limits = Limits {
+        connections: settings.connections,
+        counts_refused: true,
         can_stop,
-    ) {
+        tries: None,
+    };
+    let mut arrivals = match Arrivals::new(rt, alloc, listener, accepting, shared, stop, limits) {
         Ok(arrivals) => arrivals,
         Err(error) => return Err(setup_fault(&error)),
     };

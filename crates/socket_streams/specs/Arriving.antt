@@ -6,11 +6,12 @@ use Rattle.gate_node.specs.Passes.{AreUnused}
 use Rattle.worker_pool.specs.declared.job.Job.{Job}
 use Rattle.worker_pool.specs.Serving.{IsForGates}
 
--- the gates that its connections are for, how many are accepted at most, whether an input may end that before, how many were given, and how many
--- were closed for want of memory
+-- the gates that its connections are for, how many are accepted at most, whether one counts that is closed for want of memory, whether an input
+-- may end that before, how many were given, and how many of those that count were closed
 pub record ArrivalsView : Type 0 where
   pub gates : Gates
   pub limit : Option ℕ
+  pub counts_refused : Bool
   pub can_stop : Bool
   pub given : ℕ
   pub refused : ℕ
@@ -19,6 +20,7 @@ pub record ArrivalsView : Type 0 where
 pub record IsSameSource (first last : ArrivalsView) : Type 0 where
   pub gates : last.gates ≡ first.gates
   pub limit : last.limit ≡ first.limit
+  pub counts_refused : last.counts_refused ≡ first.counts_refused
   pub can_stop : last.can_stop ≡ first.can_stop
 
 module _ {I O : Type 0} where
@@ -27,10 +29,11 @@ module _ {I O : Type 0} where
     pub of_gates : IsForGates gates job
     pub unused : AreUnused job.passes
 
-  -- a connection, of which there is one more; none, where as many were accepted as are to be, or an input may have ended; or a fault
+  -- a connection, of which there is one more; none, where as many were accepted as are to be, or an input may have ended, and none was closed that
+  -- counts where none does; or a fault
   abbrev pub GivesNext : ArrivalsView → Result (Option (Job I O)) JobFault → ArrivalsView → Type 0
   GivesNext first (Ok (Some job)) last = IsNewConnection first.gates job × (last.given ≡ first.given + 1)
-  GivesNext first (Ok None) last = (last.given ≡ first.given) × (first.can_stop ≡ false → first.limit ≡ Some (last.given + last.refused))
+  GivesNext first (Ok None) last = (last.given ≡ first.given) × (first.can_stop ≡ false → first.limit ≡ Some (last.given + last.refused)) × (first.counts_refused ≡ false → last.refused ≡ 0)
   GivesNext first (Err fault) last = Unit {0}
 
   abbrev pub GivesConnection : ArrivalsView → Result (Option (Job I O)) JobFault → ArrivalsView → Type 0

@@ -16,7 +16,7 @@ use mio::unix::SourceFd;
 use mio::{Interest, Token};
 use std::alloc::Global;
 use std::marker::Model;
-use std::net::{SocketAddr, TcpListener, TcpStream};
+use std::net::{OpenListener, SocketAddr, TcpStream};
 use std::os::fd::AsRawFd;
 use std::rt::Clock;
 use std::sync::Wait;
@@ -27,48 +27,66 @@ use worker_pool::{Job, JobFault, Jobs, Passes, Shared};
 /// The token of the listener.
 const LISTENER: usize = 0;
 
+/// How many connections of a listener are accepted, and how often that is tried.
+#[derive(Clone, Copy)]
+pub struct Limits {
+    /// How many are accepted at most, if there is such a number.
+    pub connections: Option<u64>,
+    /// Whether one that is closed for want of memory is one of those that were accepted.
+    pub counts_refused: bool,
+    /// Whether something may raise the stop before.
+    pub can_stop: bool,
+    /// Behind how many tries in a row that gave no connection none is made any more, if there is such a number.
+    pub tries: Option<u32>,
+}
+
 /// The connections of a listener, each with new passes of the gates of a run, until as many were accepted as are to be, or serving is stopped.
 ///
-/// One for which memory is refused is closed, and is one of those that were accepted. One that failed before it was accepted is passed over.
-/// Where the system has no descriptor or no memory for a further one, that is logged, and it is accepted again every 10 ms. Where the listener fails,
-/// serving is stopped.
+/// One for which memory is refused is closed; whether it is one of those that were accepted its limits say. One that failed before it was
+/// accepted is passed over. Where the system has no descriptor or no memory for a further one, that is logged, and it is accepted again every
+/// 10 ms. Where the listener fails, or was tried as often as may be, serving is stopped.
 #[derive(Drop)]
-pub struct Arrivals<'a, X> {
+pub struct Arrivals<'a, X, L> {
     rt: &'a X,
     alloc: Global,
-    listener: &'a TcpListener,
+    listener: &'a L,
     waits: Waits,
     shared: &'a Shared,
     stop: &'a Stop,
     spare: Spare,
-    limit: Option<u64>,
-    can_stop: bool,
+    limits: Limits,
     given: u64,
     refused: u64,
+    /// How many tries in a row gave no connection, up to now.
+    failures: u32,
+    /// Whether the last of them was for want of memory for its job.
+    wants_memory: bool,
     /// Whether it was logged that there is no descriptor or no memory for a further connection.
     is_logged: bool,
 }
 
-impl<'a, X> Model for Arrivals<'a, X> {
-    ghost use Rattle.std.specs.Prelude.{◌+◌, ◌<◌, ◌≤◌, ◌^◌, IfSome};
+impl<'a, X, L> Model for Arrivals<'a, X, L> {
+    ghost use Rattle.std.specs.Prelude.{◌≡◌, ◌+◌, ◌<◌, ◌≤◌, ◌^◌, false, IfSome};
     ghost use Rattle.socket_streams.specs.Arriving.{ArrivalsView};
 
     ghost Value = { ArrivalsView };
 
     ghost view = { λ a. record {
       gates = a.shared.now;
-      limit = a.limit;
-      can_stop = a.can_stop;
+      limit = a.limits.connections;
+      counts_refused = a.limits.counts_refused;
+      can_stop = a.limits.can_stop;
       given = a.given;
       refused = a.refused;
     } };
 
     ghost invariant = { λ a. (a.given + a.refused < 2 ^ 64)
-        × IfSome a.limit (λ limit. a.given + a.refused ≤ limit) };
+        × IfSome a.limits.connections (λ limit. a.given + a.refused ≤ limit)
+        × (a.limits.counts_refused ≡ false → a.refused ≡ 0) };
 }
 
 /// Has a listener not wait, and its connections reported.
-fn watch(waits: &Waits, listener: &TcpListener) -> io::Result<()> {
+fn watch<L: OpenListener + AsRawFd>(waits: &Waits, listener: &L) -> io::Result<()> {
     listener.set_nonblocking(true)?;
     let descriptor = listener.as_raw_fd();
     waits.poll.registry().register(
@@ -78,23 +96,22 @@ fn watch(waits: &Waits, listener: &TcpListener) -> io::Result<()> {
     )
 }
 
-impl<'a, X> Arrivals<'a, X> {
-    /// The connections that come to a listener, of which at most so many are accepted, if there is such a number. `can_stop` where something may
-    /// raise the stop before.
+impl<'a, X, L: OpenListener<Stream = TcpStream> + AsRawFd> Arrivals<'a, X, L> {
+    /// The connections that come to a listener, within these limits.
     pub fn new(
         rt: &'a X,
         alloc: Global,
-        listener: &'a TcpListener,
+        listener: &'a L,
         waits: Waits,
         shared: &'a Shared,
         stop: &'a Stop,
-        limit: Option<u64>,
-        can_stop: bool,
-    ) -> io::Result<Arrivals<'a, X>>
+        limits: Limits,
+    ) -> io::Result<Arrivals<'a, X, L>>
         ensures { IfOk result (λ arrivals. arrivals ≡ record {
           gates = shared.now;
-          limit = limit;
-          can_stop = can_stop;
+          limit = limits.connections;
+          counts_refused = limits.counts_refused;
+          can_stop = limits.can_stop;
           given = 0;
           refused = 0;
         }) }
@@ -108,10 +125,11 @@ impl<'a, X> Arrivals<'a, X> {
             shared,
             stop,
             spare: Spare::new(alloc),
-            limit,
-            can_stop,
+            limits,
             given: 0,
             refused: 0,
+            failures: 0,
+            wants_memory: false,
             is_logged: false,
         })
     }
@@ -131,6 +149,11 @@ impl<'a, X> Arrivals<'a, X> {
         self.refused
     }
 
+    /// Whether memory was refused for the connection that came last.
+    pub fn wants_memory(&self) -> bool {
+        self.wants_memory
+    }
+
     /// Whether as many were accepted as are to be.
     fn is_reached(&self) -> bool
         ensures below { result ≡ false → IfSome self.now.limit
@@ -138,7 +161,7 @@ impl<'a, X> Arrivals<'a, X> {
         ensures reached { result ≡ true →
             self.now.limit ≡ Some (self.now.given + self.now.refused) }
     {
-        match self.limit {
+        match self.limits.connections {
             Some(limit) => self.accepted() == limit,
             None => false,
         }
@@ -148,7 +171,7 @@ impl<'a, X> Arrivals<'a, X> {
     fn is_stopped(&self) -> bool
         ensures { self.now.can_stop ≡ false → result ≡ false }
     {
-        self.can_stop && self.stop.is_raised()
+        self.limits.can_stop && self.stop.is_raised()
     }
 
     /// New passes of the gates: once more where memory was refused and some was given up.
@@ -207,13 +230,33 @@ impl<'a, X> Arrivals<'a, X> {
     }
 }
 
-impl<'a, X: Log + Clock + Wait> Arrivals<'a, X> {
-    /// Waits until a connection does, or accepting is stopped, or for as long as this, if it is said. Where the wait fails, for a short time.
-    fn wait(&mut self, limit: Option<Duration>)
+impl<'a, X, L> Arrivals<'a, X, L>
+where
+    X: Log + Clock + Wait,
+    L: OpenListener<Stream = TcpStream> + AsRawFd,
+{
+    /// Waits for a short time.
+    fn pause(&self) {
+        thread::sleep(self.rt, Duration::from_millis(PAUSE_MILLIS));
+    }
+
+    /// Waits until a connection does, or accepting is stopped. Where the wait fails, for a short time.
+    fn wait(&mut self)
         ensures { self.new ≡ self.old }
     {
-        if self.waits.poll.poll(&mut self.waits.events, limit).is_err() {
-            thread::sleep(self.rt, Duration::from_millis(PAUSE_MILLIS));
+        if self.waits.poll.poll(&mut self.waits.events, None).is_err() {
+            self.pause();
+        }
+    }
+
+    /// One try more gave no connection. Refused where none is to be made any more.
+    fn count_failure(&mut self) -> Result<(), JobFault>
+        ensures { self.new ≡ self.old }
+    {
+        self.failures = self.failures.saturating_add(1);
+        match self.limits.tries {
+            Some(most) if self.failures >= most => Err(JobFault),
+            _ => Ok(()),
         }
     }
 
@@ -234,16 +277,30 @@ impl<'a, X: Log + Clock + Wait> Arrivals<'a, X> {
         match fault {
             AcceptFault::NoneWaits => {
                 self.is_logged = false;
-                self.wait(None);
+                self.wait();
+                Ok(())
             }
-            AcceptFault::OfOneConnection => {}
+            AcceptFault::OfOneConnection => self.count_failure(),
             AcceptFault::OutOfResources => {
                 self.log_want();
-                self.wait(Some(Duration::from_millis(PAUSE_MILLIS)));
+                self.count_failure()?;
+                self.pause();
+                Ok(())
             }
-            AcceptFault::OfListener => return Err(JobFault),
+            AcceptFault::OfListener => Err(JobFault),
         }
-        Ok(())
+    }
+
+    /// Counts a connection that was closed for want of memory, where it counts.
+    fn count_refused(&mut self)
+        requires room { self.old.given + self.old.refused + 1 < 2 ^ 64 }
+        requires below { IfSome self.old.limit (λ limit. self.old.given + self.old.refused < limit) }
+        ensures same { IsSameSource self.old self.new }
+        ensures given { self.new.given ≡ self.old.given }
+    {
+        if self.limits.counts_refused {
+            self.refused += 1;
+        }
     }
 
     /// The job of a connection that was accepted from `peer`, which is logged and counted. None where it had to be closed.
@@ -260,8 +317,9 @@ impl<'a, X: Log + Clock + Wait> Arrivals<'a, X> {
         let job = self.new_job(stream, peer);
         if job.is_some() {
             self.given += 1;
+            self.failures = 0;
         } else {
-            self.refused += 1;
+            self.count_refused();
             log_refused(self.rt, peer);
         }
         job
@@ -279,8 +337,16 @@ impl<'a, X: Log + Clock + Wait> Arrivals<'a, X> {
             return Err(JobFault);
         }
         match self.listener.accept() {
-            Ok((stream, peer)) => Ok(self.take(stream, peer)),
+            Ok((stream, peer)) => match self.take(stream, peer) {
+                Some(job) => Ok(Some(job)),
+                None => {
+                    self.wants_memory = true;
+                    self.count_failure()?;
+                    Ok(None)
+                }
+            },
             Err(error) => {
+                self.wants_memory = false;
                 self.wait_behind(AcceptFault::of(&error))?;
                 Ok(None)
             }
@@ -288,7 +354,11 @@ impl<'a, X: Log + Clock + Wait> Arrivals<'a, X> {
     }
 }
 
-impl<'a, X: Log + Clock + Wait> Jobs for Arrivals<'a, X> {
+impl<'a, X, L> Jobs for Arrivals<'a, X, L>
+where
+    X: Log + Clock + Wait,
+    L: OpenListener<Stream = TcpStream> + AsRawFd,
+{
     type Job = Job<RequestHalf, ReplyHalf>;
 
     ghost use Rattle.socket_streams.specs.Arriving.{GivesConnection};

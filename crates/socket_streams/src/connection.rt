@@ -1,6 +1,8 @@
 //! The socket of a connection, and what its worker was told of it.
 
 use std::alloc::Global;
+use std::io;
+use std::io::ErrorKind;
 use std::net::TcpStream;
 use std::sync::Arc;
 use std::sync::atomic::{AtomicBool, Ordering};
@@ -15,6 +17,13 @@ pub(crate) struct Connection {
     is_drained: AtomicBool,
     /// Whether it was reported that nothing comes behind what has come.
     is_ending: AtomicBool,
+    /// Whether a read has met the end of what comes, or a call has failed: then its client sends nothing more.
+    is_over: AtomicBool,
+}
+
+/// Whether an error says that the same call may go well later.
+pub(crate) fn is_of_now(error: &io::Error) -> bool {
+    error.kind() == ErrorKind::WouldBlock || error.kind() == ErrorKind::Interrupted
 }
 
 /// A connection, which its two halves and its worker's slot have. The socket is closed when all have let go of it.
@@ -27,6 +36,7 @@ impl Connection {
             stream,
             is_drained: AtomicBool::new(false),
             is_ending: AtomicBool::new(false),
+            is_over: AtomicBool::new(false),
         }
     }
 
@@ -41,6 +51,7 @@ impl Connection {
             stream,
             is_drained: _,
             is_ending: _,
+            is_over: _,
         } = self;
         stream
     }
@@ -63,5 +74,21 @@ impl Connection {
             self.is_ending.store(true, Ordering::SeqCst);
         }
         self.is_drained.store(false, Ordering::SeqCst);
+    }
+
+    /// Notes what a call of the stream returned, where that is an error or the end of what comes.
+    pub(crate) fn note_result(&self, came: &io::Result<usize>) {
+        let is_over = match came {
+            Ok(taken) => *taken == 0,
+            Err(error) => !is_of_now(error),
+        };
+        if is_over {
+            self.is_over.store(true, Ordering::SeqCst);
+        }
+    }
+
+    /// Whether its client sends nothing more.
+    pub(crate) fn is_over(&self) -> bool {
+        self.is_over.load(Ordering::SeqCst)
     }
 }

@@ -2,7 +2,7 @@
 
 use crate::door::Door;
 use crate::halves::{ReplyHalf, RequestHalf};
-use crate::lingering::LOOK_MILLIS;
+use crate::lingering::{LOOK_MILLIS, Lingering};
 use crate::pause::PAUSE_MILLIS;
 use crate::slots::{Patience, Slots};
 use crate::stop::Stop;
@@ -31,6 +31,8 @@ pub struct SocketDesk<'a, 's, X> {
     door: Arc<Door, Global>,
     waits: Waits,
     slots: Slots,
+    /// The sockets of connections that have ended while their clients may still be sending.
+    lingering: Lingering,
     clock: WorkerClock,
     /// When it last returned from a wait, in milliseconds since the worker began.
     now: u64,
@@ -87,6 +89,7 @@ impl<'a, 's, X: Clock + Wait> SocketDesk<'a, 's, X> {
             door,
             waits,
             slots: Slots::new(alloc),
+            lingering: Lingering::new(rt, alloc),
             clock: WorkerClock::new(rt, idle_seconds),
             now: 0,
             round: None,
@@ -153,6 +156,19 @@ impl<'a, 's, X: Clock + Wait> SocketDesk<'a, 's, X> {
         }
     }
 
+    /// The connection in a slot has ended. Where its client may still be sending, its socket lingers.
+    fn note_end(&mut self, slot: usize) {
+        if self.unwatched == Some(slot) {
+            self.unwatched = None;
+        }
+        self.door.count_end();
+        if let Some(socket) = self.slots.end(slot) {
+            if !socket.is_over() {
+                self.lingering.add(self.rt, socket);
+            }
+        }
+    }
+
     /// The connection in a slot can go on.
     fn note_going(&mut self, slot: usize) {
         self.slots.note_move(slot, self.now);
@@ -172,14 +188,14 @@ impl<'a, 's, X: Clock + Wait> SocketDesk<'a, 's, X> {
 
     /// Whether all tasks are in the queue, and no socket lingers: once no connection is open, the worker may take its stop mark.
     fn may_end(&self) -> bool {
-        self.door.is_closing() && !self.door.has_lingering()
+        self.door.is_closing() && self.lingering.is_empty()
     }
 
     /// How long may be waited for what is ready next; for ever, where it is None.
     fn limit(&self, is_idle: bool) -> Option<Duration> {
         if self.slots.ready() > 0 || self.is_called(is_idle) {
             Some(Duration::from_millis(0))
-        } else if self.door.has_lingering() {
+        } else if !self.lingering.is_empty() {
             Some(Duration::from_millis(LOOK_MILLIS))
         } else {
             self.clock.limit()
@@ -260,12 +276,7 @@ impl<'a, 's, X: Clock + Wait> StreamReadiness<RequestHalf, ReplyHalf> for Socket
 
     fn after(&mut self, slot: usize, moved: Moved) {
         match moved {
-            Moved::Over => {
-                if self.unwatched == Some(slot) {
-                    self.unwatched = None;
-                }
-                self.slots.end(slot);
-            }
+            Moved::Over => self.note_end(slot),
             Moved::Going => self.note_going(slot),
             Moved::Waits => self.note_waiting(slot),
         }
@@ -276,8 +287,8 @@ impl<'a, 's, X: Clock + Wait> StreamReadiness<RequestHalf, ReplyHalf> for Socket
         self.has_started = self.stop.is_started();
         self.note_ready();
         self.note_stop();
-        if self.door.has_lingering() {
-            self.door.pass_over(self.rt);
+        if !self.lingering.is_empty() {
+            self.lingering.pass_over(self.rt);
         }
     }
 }

@@ -1,13 +1,10 @@
 //! What a worker shares with those who wake it, and with its sink.
 
-use crate::connection::Socket;
-use crate::lingering::Lingering;
 use crate::slots::Slot;
 use job_pool::Bell;
 use mio::Waker;
 use std::alloc::Global;
 use std::mem;
-use std::rt::Clock;
 use std::sync::atomic::{AtomicBool, AtomicUsize, Ordering};
 use std::sync::{Arc, Mutex, Wait};
 
@@ -25,17 +22,13 @@ pub(crate) struct Door {
     is_waiting: AtomicBool,
     /// Whether the connection that has its turn ends where it would have to wait.
     is_cutting: AtomicBool,
-    /// The sockets of connections that have ended while their clients may still be sending.
-    lingering: Mutex<Lingering>,
-    /// Whether there is such a socket.
-    has_lingering: AtomicBool,
     /// No slot, with room for as many as the worker may need next.
     wider: Mutex<Vec<Slot>>,
 }
 
 impl Door {
     /// The worker has nothing and is to take nothing. This waker ends its wait.
-    pub(crate) fn new<X: Clock>(rt: &X, alloc: Global, waker: Waker) -> Door {
+    pub(crate) fn new(alloc: Global, waker: Waker) -> Door {
         Door {
             waker,
             load: AtomicUsize::new(0),
@@ -43,8 +36,6 @@ impl Door {
             is_closing: AtomicBool::new(false),
             is_waiting: AtomicBool::new(false),
             is_cutting: AtomicBool::new(false),
-            lingering: Mutex::new(Lingering::new(rt, alloc)),
-            has_lingering: AtomicBool::new(false),
             wider: Mutex::new(Vec::new(alloc)),
         }
     }
@@ -94,25 +85,6 @@ impl Door {
     /// Whether the connection that had its turn last was to end where it would have to wait.
     pub(crate) fn is_cutting(&self) -> bool {
         self.is_cutting.load(Ordering::SeqCst)
-    }
-
-    /// Has the socket of a connection linger that has ended.
-    pub(crate) fn linger<X: Clock + Wait>(&self, rt: &X, socket: Socket) {
-        self.lingering.lock(rt).add(rt, socket);
-        self.has_lingering.store(true, Ordering::SeqCst);
-    }
-
-    /// Whether a socket lingers.
-    pub(crate) fn has_lingering(&self) -> bool {
-        self.has_lingering.load(Ordering::SeqCst)
-    }
-
-    /// Reads what comes to the sockets that linger.
-    pub(crate) fn pass_over<X: Clock + Wait>(&self, rt: &X) {
-        let mut lingering = self.lingering.lock(rt);
-        lingering.pass_over(rt);
-        self.has_lingering
-            .store(!lingering.is_empty(), Ordering::SeqCst);
     }
 
     /// Puts room for slots here.

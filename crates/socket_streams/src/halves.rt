@@ -15,13 +15,12 @@ use worker_pool::{EndRead, EndWrite};
 /// How many bytes of replies are gathered at most before they are written to the socket.
 const MAX_GATHERED: usize = 8_192;
 
-/// The half from which requests are read. A read that would have to wait returns `WouldBlock`. After the session's end it reads as at the
-/// end of its input.
+/// The half from which requests are read. A read that would have to wait returns `WouldBlock`. After the session's end it has let go of the
+/// socket, and reads as at the end of its input.
 #[derive(Drop)]
 pub struct RequestHalf {
     socket: Option<Socket>,
     peer: SocketAddr,
-    has_ended: bool,
 }
 
 /// The half to which replies are written. It gathers them, up to 8,192 bytes or until it is flushed, for one write to the socket. A write that
@@ -41,7 +40,7 @@ impl RequestHalf {
         self.peer
     }
 
-    /// The descriptor of the socket, until that was taken.
+    /// The descriptor of the socket, until the session's end.
     pub(crate) fn descriptor(&self) -> Option<RawFd> {
         match &self.socket {
             Some(socket) => Some(socket.stream().as_raw_fd()),
@@ -58,25 +57,17 @@ impl RequestHalf {
         }
     }
 
-    /// The socket once more; None where it was taken.
+    /// The socket once more; None after the session's end.
     pub(crate) fn share_socket(&self) -> Option<Socket> {
         match &self.socket {
             Some(socket) => Arc::try_clone(socket).ok(),
             None => None,
         }
     }
-
-    /// Takes the socket out.
-    pub(crate) fn take_socket(&mut self) -> Option<Socket> {
-        self.socket.take()
-    }
 }
 
 impl Read for RequestHalf {
     fn read(&mut self, buf: &mut [u8]) -> io::Result<usize> {
-        if self.has_ended {
-            return Ok(0);
-        }
         let Some(socket) = &self.socket else {
             return Ok(0);
         };
@@ -85,7 +76,9 @@ impl Read for RequestHalf {
         }
         let room = buf.len();
         let mut stream = socket.stream();
-        let taken = stream.read(buf)?;
+        let came = stream.read(buf);
+        socket.note_result(&came);
+        let taken = came?;
         socket.note_read(taken, room);
         Ok(taken)
     }
@@ -93,7 +86,7 @@ impl Read for RequestHalf {
 
 impl EndRead for RequestHalf {
     fn ended(&mut self) {
-        self.has_ended = true;
+        self.socket = None;
     }
 }
 
@@ -105,7 +98,11 @@ impl ReplyHalf {
         match &self.socket {
             Some(socket) => {
                 let mut stream = socket.stream();
-                stream.write(buf)
+                let came = stream.write(buf);
+                if came.is_err() {
+                    socket.note_result(&came);
+                }
+                came
             }
             None => Ok(0),
         }
@@ -190,7 +187,6 @@ pub(crate) fn new_halves(
     let reader = RequestHalf {
         socket: Some(socket),
         peer,
-        has_ended: false,
     };
     let writer = ReplyHalf {
         socket: Some(theirs),

@@ -4,7 +4,8 @@
 //! ```text
 //! let (waits, stop) = new_run_waits(&rt, alloc, 4)?;                          // four workers
 //! let seats = new_seats(&rt, alloc, &stop, waits.workers, Some(60))?;         // for each a sink, a readiness and a bell
-//! let mut arrivals = Arrivals::new(&rt, alloc, &listener, waits.accepting, &shared, &stop, Some(2), false)?;
+//! let limits = Limits { connections: Some(2), counts_refused: true, can_stop: false, tries: None };
+//! let mut arrivals = Arrivals::new(&rt, alloc, &listener, waits.accepting, &shared, &stop, limits)?;
 //! Pool::serve(&rt, alloc, &shared, &mut arrivals, seats, &Open)               // returns once two connections have ended
 //! ```
 //!
@@ -37,11 +38,12 @@ mod waits;
 mod worker_clock;
 
 pub use accept_fault::AcceptFault;
-pub use arrivals::Arrivals;
+pub use arrivals::{Arrivals, Limits};
 pub use desk::SocketDesk;
 pub use door::SocketBell;
 pub use halves::{ReplyHalf, RequestHalf};
 pub use log_sink::LogSink;
-pub use pause::PAUSE_MILLIS;
 pub use stop::Stop;
-pub use waits::{RunWaits, SocketSeat, Waits, WorkerWaits, new_run_waits, new_seats};
+pub use waits::{
+    RunWaits, SocketPost, SocketSeat, Waits, WorkerWaits, new_posts, new_run_waits, new_seats,
+};

@@ -1,10 +1,10 @@
 //! Sockets of connections that have ended while their clients may still be sending.
 
-use crate::connection::Socket;
+use crate::connection::{Socket, is_of_now};
 use crate::worker_clock::WorkerClock;
 use node_session::MAX_READ_LEN;
 use std::alloc::Global;
-use std::io::{Error, ErrorKind, Read};
+use std::io::Read;
 use std::net::Shutdown;
 use std::rt::Clock;
 
@@ -38,11 +38,6 @@ pub(crate) struct Lingering {
     clock: WorkerClock,
     sockets: Vec<Lingerer>,
     next_look: u64,
-}
-
-/// Whether an error of a read says that more may come.
-fn is_of_now(error: &Error) -> bool {
-    error.kind() == ErrorKind::WouldBlock || error.kind() == ErrorKind::Interrupted
 }
 
 /// Passes over what has come. Whether more may.

@@ -1,7 +1,6 @@
 //! What is told the end of each connection: the log.
 ghost use Rattle.std.specs.Prelude.{◌≡◌, ◌++◌, ◌∷◌, []};
 
-use crate::connection::Socket;
 use crate::door::Door;
 use crate::halves::{ReplyHalf, RequestHalf};
 use crate::slots::Slot;
@@ -20,8 +19,7 @@ use worker_pool::{EndSink, Job, SessionEnd, Shared};
 /// The end of a connection, as a worker's sink is told it.
 type ConnectionEnd = SessionEnd<RequestHalf, ReplyHalf>;
 
-/// Writes a line to the log for each end, and has the socket of a connection linger whose client may still be sending. It keeps nothing: clauses alone
-/// see the ends that it was told, as their list.
+/// Writes a line to the log for each end. It keeps nothing: clauses alone see the ends that it was told, as their list.
 #[derive(Drop)]
 pub struct LogSink<'a, X> {
     rt: &'a X,
@@ -52,15 +50,6 @@ fn is_cut(outcome: Result<Ended, SessionFault>, is_cutting: bool) -> bool {
     }
 }
 
-/// Whether the client of a connection that ended so may still be sending.
-fn may_still_send(outcome: Result<Ended, SessionFault>, is_cut: bool) -> bool {
-    match outcome {
-        Ok(_) => false,
-        Err(SessionFault::ReadFailed(_)) | Err(SessionFault::WriteFailed(_)) => is_cut,
-        Err(_) => true,
-    }
-}
-
 /// Logs that a connection ended because of a fault.
 fn log_fault<L: Log>(log: &L, peer: SocketAddr, fault: SessionFault) {
     warn!(log; "connection from {peer} ended: {fault}");
@@ -88,7 +77,7 @@ fn log_end<L: Log>(log: &L, peer: SocketAddr, outcome: Result<Ended, SessionFaul
 }
 
 impl<'a, X> LogSink<'a, X> {
-    /// One that was told none. The socket that lingers goes to this door.
+    /// One that was told none, of the worker that has this door.
     pub(crate) fn new(rt: &'a X, alloc: Global, door: Arc<Door, Global>) -> LogSink<'a, X>
         ensures { result ≡ [] }
     {
@@ -111,23 +100,6 @@ impl<'a, X: Log + Clock + Wait> LogSink<'a, X> {
         self.room = wider.capacity();
         self.door.put_wider(self.rt, wider);
         Ok(())
-    }
-
-    /// Logs an end, and has the socket linger where the client may still be sending.
-    fn finish(
-        &self,
-        peer: SocketAddr,
-        outcome: Result<Ended, SessionFault>,
-        socket: Option<Socket>,
-    ) {
-        let is_cut = is_cut(outcome, self.door.is_cutting());
-        log_end(self.rt, peer, outcome, is_cut);
-        self.door.count_end();
-        if let Some(socket) = socket {
-            if may_still_send(outcome, is_cut) {
-                self.door.linger(self.rt, socket);
-            }
-        }
     }
 }
 
@@ -154,10 +126,11 @@ impl<'a, X: Log + Clock + Wait> EndSink<RequestHalf, ReplyHalf> for LogSink<'a, 
         let NumberedEnd { number: _, end } = told;
         let SessionEnd {
             result,
-            mut reader,
+            reader,
             writer: _,
         } = end;
-        self.finish(reader.peer(), result, reader.take_socket());
+        let is_cut = is_cut(result, self.door.is_cutting());
+        log_end(self.rt, reader.peer(), result, is_cut);
     }
 
     fn refuse(&mut self, _shared: &Shared, _number: usize, job: Job<RequestHalf, ReplyHalf>)

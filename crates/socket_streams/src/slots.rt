@@ -104,10 +104,11 @@ impl Slots {
         true
     }
 
-    /// The connection in a slot has ended.
-    pub(crate) fn end(&mut self, slot: usize) {
-        if let Some(one) = self.slots.get_mut(slot) {
-            one.socket = None;
+    /// The connection in a slot has ended. Its socket.
+    pub(crate) fn end(&mut self, slot: usize) -> Option<Socket> {
+        match self.slots.get_mut(slot) {
+            Some(one) => one.socket.take(),
+            None => None,
         }
     }
 

@@ -6,13 +6,14 @@ use crate::desk::SocketDesk;
 use crate::door::{Door, SocketBell};
 use crate::log_sink::LogSink;
 use crate::stop::Stop;
+use job_pool::Post;
 use mio::{Events, Poll, Token, Waker};
 use std::alloc::Global;
 use std::io;
 use std::net::Net;
 use std::rt::Clock;
 use std::sync::{Arc, Wait};
-use worker_pool::Seat;
+use worker_pool::{Seat, Shown};
 
 /// The token of a waker; those of connections are their slots, which are below it.
 pub(crate) const WAKER: usize = 18_446_744_073_709_551_615;
@@ -41,7 +42,10 @@ pub struct RunWaits {
     pub workers: Vec<WorkerWaits>,
 }
 
-/// What a worker over sockets is started with.
+/// What a worker over sockets waits with in a run that keeps all ends, and is woken by.
+pub type SocketPost<'a, 's, X> = Post<Shown<SocketDesk<'a, 's, X>>, SocketBell>;
+
+/// What a worker over sockets is started with in a run that keeps none.
 pub type SocketSeat<'a, 's, X> = Seat<LogSink<'a, X>, SocketDesk<'a, 's, X>, SocketBell>;
 
 /// What a thread waits with, and how another one wakes it.
@@ -53,30 +57,26 @@ fn new_waits<X: Net>(net: &X, alloc: Global) -> io::Result<(Waits, Waker)> {
 }
 
 /// What a further worker waits with, whose door is one more of these.
-fn new_worker<X: Clock + Net>(
-    rt: &X,
+fn new_worker<X: Net>(
+    net: &X,
     alloc: Global,
     doors: &mut Vec<Arc<Door, Global>>,
 ) -> io::Result<WorkerWaits> {
-    let (waits, waker) = new_waits(rt, alloc)?;
-    let door = Arc::new(alloc, Door::new(rt, alloc, waker))?;
+    let (waits, waker) = new_waits(net, alloc)?;
+    let door = Arc::new(alloc, Door::new(alloc, waker))?;
     doors.push(Arc::try_clone(&door)?)?;
     Ok(WorkerWaits { waits, door })
 }
 
 /// What the threads of a run of so many workers wait with, and what stops the run. Refused where memory is, or a descriptor.
-pub fn new_run_waits<X: Clock + Net>(
-    rt: &X,
-    alloc: Global,
-    workers: u16,
-) -> io::Result<(RunWaits, Stop)>
+pub fn new_run_waits<X: Net>(net: &X, alloc: Global, workers: u16) -> io::Result<(RunWaits, Stop)>
     ensures { IfOk result (λ made. length made.0.workers.items ≡ workers) }
 {
-    let (accepting, waker) = new_waits(rt, alloc)?;
+    let (accepting, waker) = new_waits(net, alloc)?;
     let mut waits = Vec::new(alloc);
     let mut doors = Vec::new(alloc);
     for _ in 0..workers {
-        waits.push(new_worker(rt, alloc, &mut doors)?)?;
+        waits.push(new_worker(net, alloc, &mut doors)?)?;
     }
     let made = RunWaits {
         accepting,
@@ -85,7 +85,25 @@ pub fn new_run_waits<X: Clock + Net>(
     Ok((made, Stop::new(waker, doors)))
 }
 
-/// What a worker is started with that waits with these.
+/// What a worker that waits with these has in a run that is stopped so.
+fn new_post<'a, 's, X: Clock + Wait>(
+    rt: &'a X,
+    alloc: Global,
+    stop: &'s Stop,
+    worker: WorkerWaits,
+    idle_seconds: Option<u32>,
+) -> io::Result<SocketPost<'a, 's, X>> {
+    let WorkerWaits { waits, door } = worker;
+    let of_bell = Arc::try_clone(&door)?;
+    Ok(Post {
+        readiness: Shown {
+            streams: SocketDesk::new(rt, alloc, stop, door, waits, idle_seconds),
+        },
+        bell: SocketBell { door: of_bell },
+    })
+}
+
+/// The same of a run that keeps no ends, with a sink.
 fn new_seat<'a, 's, X: Clock + Wait>(
     rt: &'a X,
     alloc: Global,
@@ -95,17 +113,33 @@ fn new_seat<'a, 's, X: Clock + Wait>(
 ) -> io::Result<SocketSeat<'a, 's, X>>
     ensures { IfOk result (λ seat. seat.sink ≡ []) }
 {
-    let WorkerWaits { waits, door } = worker;
-    let of_sink = Arc::try_clone(&door)?;
-    let of_bell = Arc::try_clone(&door)?;
+    let of_sink = Arc::try_clone(&worker.door)?;
+    let Post { readiness, bell } = new_post(rt, alloc, stop, worker, idle_seconds)?;
     Ok(Seat {
         sink: LogSink::new(rt, alloc, of_sink),
-        readiness: SocketDesk::new(rt, alloc, stop, door, waits, idle_seconds),
-        bell: SocketBell { door: of_bell },
+        readiness: readiness.streams,
+        bell,
     })
 }
 
-/// What the workers of a run are started with that is stopped so. A connection is closed after so many seconds without a byte, if it is. Refused
+/// What the workers of a run that keeps all ends wait with, and are woken by. Its connections are waited for until they end. Refused where
+/// memory is.
+pub fn new_posts<'a, 's, X: Clock + Wait>(
+    rt: &'a X,
+    alloc: Global,
+    stop: &'s Stop,
+    workers: Vec<WorkerWaits>,
+) -> io::Result<Vec<SocketPost<'a, 's, X>>>
+    ensures { IfOk result (λ posts. length posts.items ≡ length workers.items) }
+{
+    let mut posts = Vec::new(alloc);
+    for worker in workers {
+        posts.push(new_post(rt, alloc, stop, worker, None)?)?;
+    }
+    Ok(posts)
+}
+
+/// What the workers of a run that keeps no ends are started with. A connection is closed after so many seconds without a byte, if it is. Refused
 /// where memory is.
 pub fn new_seats<'a, 's, X: Clock + Wait>(
     rt: &'a X,

@@ -1,5 +1,5 @@
-//! A run of the pool.
-ghost use Rattle.std.specs.Prelude.{◌≡◌, ◌≤◌, map, IfOk, IfErr};
+//! A run of the pool that keeps all ends.
+ghost use Rattle.std.specs.Prelude.{◌≡◌, ◌≤◌, length, map, IfOk, IfErr};
 ghost use Rattle.job_pool.specs.Giving.{GivesOnly};
 ghost use Rattle.stats_book.specs.Counting.{sum_of, zeros};
 ghost use Rattle.stats_book.specs.Holdings.{AllAre};
@@ -11,9 +11,10 @@ ghost use Rattle.worker_pool.specs.Leaving.{LeavesSource, IsFaultAfter, pool_fau
 use crate::closed::Closed;
 use crate::job::{End, EndRead, EndWrite, Job};
 use crate::server::{ServedJob, Server};
+use crate::stream_readiness::{Shown, StreamReadiness, new_rounds};
 use crate::tray::{Tray, stocks_of, trays_of};
 use gate_node::{PoolFault, Shared, Turnstile, tallies_of};
-use job_pool::{Finished, Jobs, RunFault};
+use job_pool::{Bell, Finished, Jobs, Post, Rounds, RunFault, Wake, Wakes, run_with};
 use stats_book::{Blanks, Book, Stock, close_stocks, open_stocks};
 use std::alloc::Global;
 use std::marker::{Brand, PhantomData};
@@ -111,12 +112,14 @@ where
 }
 
 /// A run by a book of these ledgers.
-fn run_by<X, J, I, O, T, G, P, D, E, R>(
+fn run_by<X, J, I, O, T, Y, B, G, P, D, E, R>(
     rt: &X,
     alloc: Global,
     shared: &Shared,
     jobs: &mut J,
     workers: u16,
+    posts: Vec<Post<Shown<Y>, B>>,
+    wakes: Wakes,
     turnstile: &T,
     blanks: Blanks,
 ) -> Result<Closed<I, O>, PoolFault>
@@ -126,12 +129,15 @@ where
     I: EndRead + Drop + Send + Sync,
     O: EndWrite + Drop + Send + Sync,
     T: Turnstile + Sync,
+    Y: StreamReadiness<I, O> + Drop + Send,
+    B: Bell + Drop,
     G: Ledger + Send + Sync,
     P: Ledger + Send + Sync,
     D: Ledger + Send + Sync,
     E: Ledger + Send + Sync,
     R: Ledger + Send + Sync,
     requires workers { 1 ≤ workers }
+    requires posts { length posts.items ≡ workers }
     requires jobs { GivesOnly J.gives (IsForGates shared.now) jobs.old }
     requires gets { (blanks.gets.name ≡ G.name) × (blanks.gets.parts ≡ G.parts) }
     requires puts { (blanks.puts.name ≡ P.name) × (blanks.puts.parts ≡ P.parts) }
@@ -161,7 +167,7 @@ where
         kept: none.as_slice(),
         jobs: PhantomData,
     };
-    match job_pool::run(rt, alloc, &server, jobs, trays) {
+    match run_with(rt, alloc, &server, jobs, trays, posts, wakes) {
         Ok(finished) => finish(rt, alloc, shared, book, rest, finished),
         Err(fault) => Err(fault_of(fault)),
     }
@@ -217,12 +223,60 @@ impl Pool {
         ensures fault { IfErr result (λ fault.
             LeavesSource J.gives I.remaining O.contents shared.now fault jobs.old jobs.new) }
     {
-        run_by::<X, J, I, O, T, Brand, Brand, Brand, Brand, Brand>(
+        let Ok(posts) = new_rounds(alloc, workers) else {
+            return Err(PoolFault::NoMemory);
+        };
+        run_by::<X, J, I, O, T, Rounds, Wake, Brand, Brand, Brand, Brand, Brand>(
             rt,
             alloc,
             shared,
             jobs,
             workers,
+            posts,
+            Wakes::All,
+            turnstile,
+            Blanks::of(SHARES),
+        )
+    }
+
+    /// The same by a worker at each of these posts. The calling thread hands each job to the worker with the least load, by
+    /// its bell; how many sessions a worker has open, and which of them has its turn, its readiness says.
+    ///
+    /// It returns if each call of the source and of the turnstile does, and each session is over after finitely many turns.
+    pub fn run_with<X, J, I, O, T, Y, B>(
+        rt: &X,
+        alloc: Global,
+        shared: &Shared,
+        jobs: &mut J,
+        workers: u16,
+        posts: Vec<Post<Shown<Y>, B>>,
+        turnstile: &T,
+    ) -> Result<Closed<I, O>, PoolFault>
+    where
+        X: Threads + Wait + Sync,
+        J: Jobs<Job = Job<I, O>>,
+        I: EndRead + Drop + Send + Sync,
+        O: EndWrite + Drop + Send + Sync,
+        T: Turnstile + Sync,
+        Y: StreamReadiness<I, O> + Drop + Send,
+        B: Bell + Drop,
+        requires workers { (1 ≤ workers) × (workers ≤ 64) }
+        requires posts { length posts.items ≡ workers }
+        requires jobs { GivesOnly J.gives (IsForGates shared.now) jobs.old }
+        ensures served { IfOk result (λ closed.
+            ServesSource I.remaining O.contents shared.now J.gives workers
+            jobs.old closed jobs.new) }
+        ensures fault { IfErr result (λ fault.
+            LeavesSource J.gives I.remaining O.contents shared.now fault jobs.old jobs.new) }
+    {
+        run_by::<X, J, I, O, T, Y, B, Brand, Brand, Brand, Brand, Brand>(
+            rt,
+            alloc,
+            shared,
+            jobs,
+            workers,
+            posts,
+            Wakes::LeastLoad,
             turnstile,
             Blanks::of(SHARES),
         )

@@ -13,6 +13,7 @@ use log::Log;
 use node_commands::{ServeFault, Served, Settings, serve_on};
 use ring_map::Ring;
 use std::alloc::Global;
+use std::net::Net;
 use std::rt::Clock;
 use std::sync::Wait;
 use std::thread::Threads;
@@ -44,7 +45,7 @@ fn settings_of(connections: u16, workers: u16) -> Option<Settings>
 }
 
 /// Serves so many connections by so many workers.
-fn serve<R: Log + Clock + Threads + Wait + Sync>(
+fn serve<R: Log + Clock + Net + Threads + Wait + Sync>(
     rt: &R,
     alloc: Global,
     listener: Failing<'_>,

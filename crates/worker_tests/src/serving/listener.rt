@@ -1,6 +1,7 @@
 //! A listener whose first accepts fail by an error of the system.
 use std::io;
 use std::net::{Net, OpenListener, SocketAddr, TcpListener, TcpStream};
+use std::os::fd::{AsRawFd, RawFd};
 use std::sync::atomic::{AtomicU32, Ordering};
 
 /// Linux's EBADF.
@@ -55,6 +56,16 @@ impl<'a> OpenListener for Failing<'a> {
 
     fn local_addr(&self) -> io::Result<SocketAddr> {
         self.listener.local_addr()
+    }
+
+    fn set_nonblocking(&self, is_nonblocking: bool) -> io::Result<()> {
+        self.listener.set_nonblocking(is_nonblocking)
+    }
+}
+
+impl<'a> AsRawFd for Failing<'a> {
+    fn as_raw_fd(&self) -> RawFd {
+        self.listener.as_raw_fd()
     }
 }
 

@@ -99,6 +99,19 @@ pub const ONE_KEY: &[Step] = &[
     Step::Acts(1, Action::IsEnded),
 ];
 
+/// Two clients that are connected at once, of which the later one ends first, with half a length.
+const LATER_ENDS_FIRST: &[Step] = &[
+    Step::Connects,
+    Step::Connects,
+    Step::Acts(1, Action::Sends(b"\0\0\x01")),
+    Step::Acts(1, Action::Shuts),
+    Step::Acts(1, Action::IsEnded),
+    Step::Acts(0, Action::Sends(PUT_V_GET)),
+    Step::Acts(0, Action::Gets(STORED_V, 12)),
+    Step::Acts(0, Action::Shuts),
+    Step::Acts(0, Action::IsEnded),
+];
+
 /// A client that sends half a length and ends.
 const HALF_A_LENGTH: &[Step] = &[
     Step::Connects,
@@ -139,6 +152,12 @@ const TWO_PUTS: Tally = Tally {
     ..NOTHING_ACCEPTED
 };
 
+/// What it accepts of one.
+const ONE_PUT: Tally = Tally {
+    writes: 1,
+    ..NOTHING_ACCEPTED
+};
+
 /// The line of the totals where nothing was counted.
 pub const NONE_OF_EACH: Option<&str> = Some("gets 0 puts 0 deletes 0 refusals 0 reaps 0\n");
 
@@ -159,6 +178,26 @@ const TWO_AT_ONCE: Run = Run {
 
 const RUNS: &[Run] = &[
     TWO_AT_ONCE,
+    Run {
+        shows: "one worker serves two clients at once",
+        workers: 1,
+        ..TWO_AT_ONCE
+    },
+    Run {
+        shows: "the ends are in the order in which the connections were accepted",
+        workers: 1,
+        steps: LATER_ENDS_FIRST,
+        ends: &[
+            PUT_AND_GOT,
+            Some(Ok(Ended {
+                replies: 0,
+                rest: 3,
+            })),
+        ],
+        tally: ONE_PUT,
+        totals: Some("gets 1 puts 1 deletes 0 refusals 0 reaps 0\n"),
+        ..TWO_AT_ONCE
+    },
     Run {
         shows: "two clients of one key see one history of it",
         steps: ONE_KEY,
@@ -273,7 +312,7 @@ fn is_served(alloc: Global, outcome: &Outcome, port: u16, run: &Run) -> bool {
 }
 
 /// Whether the connections of a listener are served as a run says.
-fn serves<R: Log + Clock + Threads + Wait + Sync>(
+fn serves<R: Log + Clock + Net + Threads + Wait + Sync>(
     rt: &R,
     alloc: Global,
     listener: Failing<'_>,

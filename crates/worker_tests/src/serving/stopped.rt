@@ -1,6 +1,6 @@
 //! Runs that stop since no further connection is to be had.
 use crate::serving::listener::{
-    ABORTED, BAD_DESCRIPTOR, Failing, Failures, NO_FAILURES, NO_PROCESS_DESCRIPTOR, listen,
+    ABORTED, BAD_DESCRIPTOR, Failing, Failures, NO_PROCESS_DESCRIPTOR, listen,
 };
 use crate::serving::{Outcome, is_text, serve};
 use log::sink::Console;
@@ -8,7 +8,7 @@ use log::{LevelFilter, Log, Logged};
 use node_commands::{MAX_ACCEPT_TRIES, ServeFault};
 use std::alloc::Global;
 use std::io;
-use std::net::{Net, TcpListener, TcpStream};
+use std::net::{Net, SocketAddr, TcpListener, TcpStream};
 use std::process::Abort;
 use std::rt::Clock;
 use std::sync::Wait;
@@ -20,8 +20,6 @@ use std::time::Duration;
 /// A run that stops behind the line on the port, since no accept gives a connection.
 struct Stop {
     shows: &'static str,
-    /// Whether an accept fails at once where no client has come.
-    is_nonblocking: bool,
     failures: Failures,
     workers: u16,
     /// How often a connection was accepted.
@@ -30,15 +28,7 @@ struct Stop {
 
 const STOPS: &[Stop] = &[
     Stop {
-        shows: "a listener that doesn't wait for a client ends the run at once",
-        is_nonblocking: true,
-        failures: NO_FAILURES,
-        workers: 2,
-        accepts: 1,
-    },
-    Stop {
         shows: "want of a descriptor ends the run at last",
-        is_nonblocking: false,
         failures: Failures {
             count: u32::MAX,
             code: NO_PROCESS_DESCRIPTOR,
@@ -48,7 +38,6 @@ const STOPS: &[Stop] = &[
     },
     Stop {
         shows: "connections that fail before they are accepted end the run at last",
-        is_nonblocking: false,
         failures: Failures {
             count: u32::MAX,
             code: ABORTED,
@@ -58,12 +47,11 @@ const STOPS: &[Stop] = &[
     },
     Stop {
         shows: "a fault of the listener itself ends the run at once",
-        is_nonblocking: false,
         failures: Failures {
             count: u32::MAX,
             code: BAD_DESCRIPTOR,
         },
-        workers: 1,
+        workers: 2,
         accepts: 1,
     },
 ];
@@ -75,6 +63,20 @@ struct Hurried<R>(R);
 impl<R: Threads> Threads for Hurried<R> {}
 
 impl<R: Wait> Wait for Hurried<R> {}
+
+impl<R: Net> Net for Hurried<R> {
+    type Stream = R::Stream;
+
+    type Listener = R::Listener;
+
+    fn bind(&self, address: SocketAddr) -> io::Result<R::Listener> {
+        self.0.bind(address)
+    }
+
+    fn connect(&self, address: SocketAddr) -> io::Result<R::Stream> {
+        self.0.connect(address)
+    }
+}
 
 impl<R: Clock> Clock for Hurried<R> {
     fn monotonic(&self) -> io::Result<Duration> {
@@ -93,7 +95,7 @@ fn is_stopped(alloc: Global, outcome: &Outcome, port: u16) -> bool {
 }
 
 /// Whether a run by this listener stops as it should.
-fn stops<R: Log + Clock + Threads + Wait + Sync>(
+fn stops<R: Log + Clock + Net + Threads + Wait + Sync>(
     rt: &R,
     alloc: Global,
     listener: TcpListener,
@@ -117,14 +119,11 @@ fn stops<R: Log + Clock + Threads + Wait + Sync>(
 fn stops_anew<N, R>(net: &N, rt: &R, alloc: Global, stop: &Stop) -> bool
 where
     N: Net<Listener = TcpListener, Stream = TcpStream>,
-    R: Log + Clock + Threads + Wait + Sync,
+    R: Log + Clock + Net + Threads + Wait + Sync,
 {
     let Some((listener, port)) = listen(net) else {
         return false;
     };
-    if listener.set_nonblocking(stop.is_nonblocking).is_err() {
-        return false;
-    }
     stops(rt, alloc, listener, port, stop)
 }
 

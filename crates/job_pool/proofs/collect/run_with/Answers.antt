@@ -2,7 +2,7 @@ use Rattle.std.proofs.Common.{subst}
 use Rattle.job_pool.specs.Sinks.{kept}
 use Rattle.job_pool.specs.Telling.{TellsGiven}
 use Rattle.job_pool.proofs.Giving.{told_served, told_failed}
-use Rattle.job_pool.proofs.pool.run.Goals as goal
+use Rattle.job_pool.proofs.collect.run_with.Goals as goal
 
 pub returns-in-Ok-stopped-clause-served : goal.returns-in-Ok-stopped-clause-served
 returns-in-Ok-stopped-clause-served g c =
