@@ -5,7 +5,6 @@ ghost use Rattle.pb_fields.specs.Field.{IsNumber, WireField, byte_string};
 ghost use Rattle.pb_fields.specs.Message.{Encodes};
 ghost use Rattle.riak_msgs.specs.ContentEncoding.{content_message};
 ghost use Rattle.riak_msgs.specs.Embedded.{ContentFields, StandForContent, content_of, pair_of};
-ghost use Rattle.riak_msgs.specs.Parts.{parts_in};
 ghost use Rattle.riak_msgs.specs.SeenContents.{content_in};
 ghost use Rattle.riak_msgs.specs.Seen.{Copies, HasNoParts, HoldsNone, IsSeenOf, RefusesToCopy, Sees};
 ghost use Rattle.riak_msgs.specs.Seen.{no_fields, merged, scalars_of, with_parts};
@@ -16,7 +15,6 @@ use crate::encode::encode_optional;
 use crate::fault::MsgFault;
 use crate::pairs_and_links::{PairView, push_link, push_pair};
 use crate::sequence::Sequence;
-use crate::parts_encoder::PartKind;
 use pb_fields::{Field, FieldFault, LengthCounter, Merge, Message, Output, Value, encode_message, scan};
 use std::alloc::{AllocError, Global};
 
@@ -132,18 +130,6 @@ impl<'a> ContentView<'a> {
         ensures { (c : ContentFields) → IsSeenOf self.now c → result ≡ false → HasNoParts c }
     {
         self.has_links || self.has_usermeta || self.has_indexes
-    }
-
-    /// Whether some of this kind are in it.
-    pub(crate) fn has(&self, kind: PartKind) -> bool
-        ensures { (c : ContentFields) → IsSeenOf self.now c → result ≡ false
-            → parts_in kind c ≡ [] }
-    {
-        match kind {
-            PartKind::Link => self.has_links,
-            PartKind::Usermeta => self.has_usermeta,
-            PartKind::Index => self.has_indexes,
-        }
     }
 
     /// The encoding of its scalars, with room behind it for that of the links and pairs.

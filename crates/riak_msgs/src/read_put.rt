@@ -1,10 +1,10 @@
 //! Reading a put.
 
-ghost use Rattle.std.specs.Prelude.{◌≡◌, ◌∷◌, ◌++◌, [], List, None, IfOk, IfErr, OnErr};
+ghost use Rattle.std.specs.Prelude.{◌≡◌, ◌∷◌, ◌++◌, [], false, List, None, IfOk, IfErr, OnErr};
 ghost use Rattle.pb_fields.specs.Field.{WireField, seen};
 ghost use Rattle.pb_fields.specs.Merging.{Tracks};
 ghost use Rattle.riak_msgs.specs.Reading.{PutFields, EncodesPut, Reads, put_fault, put_of};
-ghost use Rattle.riak_msgs.specs.Seen.{scalars_of, with_parts};
+ghost use Rattle.riak_msgs.specs.Seen.{IsSeenOf, scalars_of, with_parts};
 ghost use Rattle.riak_msgs.specs.Parts.{parts_in, parts_message};
 ghost use Rattle.riak_msgs.specs.SeenRequests.{AppendsOccurrence, AreFlagsOf, HasBadContent, HasSeenPut, IsSeenPutOf};
 ghost use Rattle.riak_msgs.specs.SeenRequests.{RefusesOccurrence, no_put};
@@ -151,8 +151,7 @@ impl<'a> PutView<'a> {
         })
     }
 
-    /// The content. Where links or pairs were seen in it the body is scanned once more for each of their numbers, since what is kept has
-    /// them by their numbers. (Apart from the others, since each value that is held at a `?` costs the prover time.)
+    /// The content. (Apart from the others, since each value that is held at a `?` costs the prover time.)
     fn content(&self, alloc: Global, body: &'a [u8]) -> Result<Content, MsgFault>
         requires { (put : PutFields) × EncodesPut body.now put × IsSeenPutOf self.now put }
         ensures ok { (put : PutFields) → IsSeenPutOf self.now put → EncodesPut body.now put
@@ -160,36 +159,55 @@ impl<'a> PutView<'a> {
         ensures err { (put : PutFields) → IsSeenPutOf self.now put → EncodesPut body.now put
             → IfErr result (λ fault. fault ≡ MsgFault.NoMemory) }
     {
-        if !self.content.has_parts() {
-            return Ok(self.content.scalars(alloc).content(alloc)?);
+        if self.content.has_parts() {
+            content_with_parts(alloc, self.content, body)
+        } else {
+            Ok(self.content.scalars(alloc).content(alloc)?)
         }
-        let scalars = self.content.begin_encoding(alloc)?;
-        let links = self.append_parts(PartKind::Link, body, scalars)?;
-        let usermeta = self.append_parts(PartKind::Usermeta, body, links)?;
-        let encoding = self.append_parts(PartKind::Index, body, usermeta)?;
-        Ok(Content::of_encoding(encoding)?)
     }
+}
 
-    /// Appends the encoding of the links or pairs of one kind. Where there are some, the body is scanned once more.
-    fn append_parts(
-        &self,
-        kind: PartKind,
-        body: &'a [u8],
-        out: Vec<u8>,
-    ) -> Result<Vec<u8>, MsgFault>
-        ensures ok { (put : PutFields) → IsSeenPutOf self.now put → EncodesPut body.now put
-            → IfOk result (λ after.
-            after.items ≡ out.items ++ parts_message kind (parts_in kind put.content)) }
-        ensures err { (put : PutFields) → EncodesPut body.now put
-            → IfErr result (λ fault. fault ≡ MsgFault.NoMemory) }
-    {
-        if !self.content.has(kind) {
-            return Ok(out);
-        }
-        let mut put = PutParts { parts: PartsEncoder { kind, out } };
-        scan(body, &mut put)?;
-        Ok(put.parts.out)
+/// The content of a put that was seen to have links or pairs. The body is scanned once more for each of their numbers, since the
+/// encoding has them by their numbers. (By a copy of the view, since a view whose place is handed on stays in memory for each put.)
+fn content_with_parts(
+    alloc: Global,
+    view: ContentView<'_>,
+    body: &[u8],
+) -> Result<Content, MsgFault>
+    requires { (put : PutFields) × EncodesPut body.now put × IsSeenOf view put.content }
+    ensures ok { (put : PutFields) → IsSeenOf view.entry put.content → EncodesPut body.now put
+        → IfOk result (λ content. content ≡ with_parts (scalars_of put.content) put.content) }
+    ensures err { (put : PutFields) → EncodesPut body.now put
+        → IfErr result (λ fault. fault ≡ MsgFault.NoMemory) }
+{
+    let scalars = view.begin_encoding(alloc)?;
+    let links = append_parts(view.has_links, PartKind::Link, body, scalars)?;
+    let usermeta = append_parts(view.has_usermeta, PartKind::Usermeta, body, links)?;
+    let encoding = append_parts(view.has_indexes, PartKind::Index, body, usermeta)?;
+    Ok(Content::of_encoding(encoding)?)
+}
+
+/// Appends the encoding of the links or pairs of one kind, if there are some. The body was seen before, so only memory can be refused.
+fn append_parts(
+    are_there: bool,
+    kind: PartKind,
+    body: &[u8],
+    out: Vec<u8>,
+) -> Result<Vec<u8>, MsgFault>
+    ensures ok { (put : PutFields) → (are_there ≡ false → parts_in kind put.content ≡ [])
+        → EncodesPut body.now put → IfOk result (λ after.
+        after.items ≡ out.items ++ parts_message kind (parts_in kind put.content)) }
+    ensures err { (put : PutFields) → EncodesPut body.now put
+        → IfErr result (λ fault. fault ≡ MsgFault.NoMemory) }
+{
+    if !are_there {
+        return Ok(out);
     }
+    let mut put = PutParts {
+        parts: PartsEncoder { kind, out },
+    };
+    scan(body, &mut put)?;
+    Ok(put.parts.out)
 }
 
 impl<'a> Merge<'a> for PutView<'a> {

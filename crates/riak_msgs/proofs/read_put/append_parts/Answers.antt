@@ -6,7 +6,7 @@ use Rattle.riak_msgs.specs.Embedded.{StandForContent}
 use Rattle.riak_msgs.specs.Picking.{each_bytes}
 use Rattle.riak_msgs.proofs.PartsAppended.{occurrences_appended}
 use Rattle.riak_msgs.proofs.Scans.{occurrences_not_copied}
-use Rattle.riak_msgs.proofs.read_put.PutView.append_parts.Goals as goal
+use Rattle.riak_msgs.proofs.read_put.append_parts.Goals as goal
 
 pub returns-in_err-scan-clause-err : goal.returns-in_err-scan-clause-err
 returns-in_err-scan-clause-err c = λ put stands.
