@@ -14,7 +14,7 @@ use Rattle.riak_msgs.specs.declared.pairs_and_links.PairView.{PairView}
 use Rattle.riak_msgs.specs.declared.content_view.ContentView.{ContentView}
 use Rattle.riak_msgs.specs.Picking.{last_bytes, last_varint, bytes_at, varint_at, string_in, number_in, flag_of}
 use Rattle.riak_msgs.specs.Embedded.{ContentFields, StandForContent, pair_of}
-use Rattle.riak_msgs.specs.Seen.{HasNoParts, HoldContent, IsPartOf, IsSeenOf, Sees, no_fields, merged, misses_key}
+use Rattle.riak_msgs.specs.Seen.{HoldContent, IsPartOf, IsSeenOf, Sees, no_fields, merged, misses_key}
 use Rattle.riak_msgs.proofs.Walks.{bytes_at-other, bytes_at-no_string, varint_at-no_number, is_some-option_copied}
 use Rattle.riak_msgs.specs.ContentOnce.{EachStand}
 use Rattle.riak_msgs.proofs.Contents.{each-append, each-split}
@@ -79,7 +79,9 @@ pub record StepsBy (before : ContentView) (field : WireField) (part : ContentFie
   pub content_encoding : option_copied after.content_encoding ≡ last_or (option_copied before.content_encoding) (cons_option (bytes_at 4 field) [])
   pub deleted : after.deleted ≡ option_map_or (λ n. not (n == 0)) (varint_at 11 field) before.deleted
   pub misses_key : after.misses_key ≡ before.misses_key || (misses_key part.usermeta || misses_key part.indexes)
-  pub no_parts : after.has_parts ≡ false → (before.has_parts ≡ false) × HasNoParts part
+  pub no_links : after.has_links ≡ false → (before.has_links ≡ false) × (part.links ≡ [])
+  pub no_usermeta : after.has_usermeta ≡ false → (before.has_usermeta ≡ false) × (part.usermeta ≡ [])
+  pub no_indexes : after.has_indexes ≡ false → (before.has_indexes ≡ false) × (part.indexes ≡ [])
 
 or_swap : (a b x y : Bool) → ((a || b) || (x || y)) ≡ ((a || x) || (b || y))
 or_swap true b x y = refl
@@ -116,13 +118,9 @@ IsSeenOf-more before field part after own step c is = record {
       ∙ or_swap (misses_key c.usermeta) (misses_key c.indexes) (misses_key part.usermeta) (misses_key part.indexes)
       ∙ ap (λ b. b || (misses_key c.indexes || misses_key part.indexes)) (sym (list_any-append lacks c.usermeta part.usermeta))
       ∙ ap (λ b. misses_key (c.usermeta ++ part.usermeta) || b) (sym (list_any-append lacks c.indexes part.indexes));
-  no_parts = λ e.
-      let late = step.no_parts e in
-      let early = is.no_parts late.0 in (
-        none_of c.links part.links early.0 late.1.0,
-        none_of c.usermeta part.usermeta early.1 late.1.1,
-        none_of c.indexes part.indexes early.2 late.1.2,
-      );
+  no_links = λ e. let late = step.no_links e in none_of c.links part.links (is.no_links late.0) late.1;
+  no_usermeta = λ e. let late = step.no_usermeta e in none_of c.usermeta part.usermeta (is.no_usermeta late.0) late.1;
+  no_indexes = λ e. let late = step.no_indexes e in none_of c.indexes part.indexes (is.no_indexes late.0) late.1;
 }
   where
     none_of : (xs ys : List (List WireField)) → xs ≡ [] → ys ≡ [] → xs ++ ys ≡ []
@@ -167,7 +165,9 @@ Sees-skipped seen field none = (alone field, alone-holds field none.link none.us
       content_encoding = kept (option_copied seen.content_encoding) (bytes_at 4 field) none.content_encoding;
       deleted = sym (ap (λ q. option_map_or (λ n. not (n == 0)) q seen.deleted) none.deleted);
       misses_key = sym (or-false seen.misses_key);
-      no_parts = λ e. (e, (refl, refl, refl));
+      no_links = λ e. (e, refl);
+      no_usermeta = λ e. (e, refl);
+      no_indexes = λ e. (e, refl);
     }
 
 -- a field of bytes
@@ -190,7 +190,9 @@ Sees-value seen number bytes e =
         content_encoding = refl;
         deleted = refl;
         misses_key = sym (or-false seen.misses_key);
-        no_parts = λ e. (e, (refl, refl, refl));
+        no_links = λ e. (e, refl);
+      no_usermeta = λ e. (e, refl);
+      no_indexes = λ e. (e, refl);
       }),
     )
 
@@ -209,7 +211,9 @@ Sees-content_type seen number bytes e =
         content_encoding = refl;
         deleted = refl;
         misses_key = sym (or-false seen.misses_key);
-        no_parts = λ e. (e, (refl, refl, refl));
+        no_links = λ e. (e, refl);
+      no_usermeta = λ e. (e, refl);
+      no_indexes = λ e. (e, refl);
       }),
     )
 
@@ -228,7 +232,9 @@ Sees-charset seen number bytes e =
         content_encoding = refl;
         deleted = refl;
         misses_key = sym (or-false seen.misses_key);
-        no_parts = λ e. (e, (refl, refl, refl));
+        no_links = λ e. (e, refl);
+      no_usermeta = λ e. (e, refl);
+      no_indexes = λ e. (e, refl);
       }),
     )
 
@@ -247,7 +253,9 @@ Sees-content_encoding seen number bytes e =
         content_encoding = refl;
         deleted = refl;
         misses_key = sym (or-false seen.misses_key);
-        no_parts = λ e. (e, (refl, refl, refl));
+        no_links = λ e. (e, refl);
+      no_usermeta = λ e. (e, refl);
+      no_indexes = λ e. (e, refl);
       }),
     )
 
@@ -266,42 +274,50 @@ Sees-deleted seen field value flag e is =
         content_encoding = refl;
         deleted = is;
         misses_key = sym (or-false seen.misses_key);
-        no_parts = λ e. (e, (refl, refl, refl));
+        no_links = λ e. (e, refl);
+      no_usermeta = λ e. (e, refl);
+      no_indexes = λ e. (e, refl);
       }),
     )
 
--- a link, and a pair
-pub Sees-link : (seen : ContentView) (number : ℕ) (bytes : List ℕ) (fields : List WireField) → number ≡ 6 → Encodes bytes fields →
-    Sees seen (string_at number bytes) (record seen { has_parts = true })
-Sees-link seen number bytes fields e stands =
+-- a link, and a pair: what is seen but for the room that they take
+pub Sees-link : (seen after : ContentView) (number : ℕ) (bytes : List ℕ) (fields : List WireField) (len : ℕ) → number ≡ 6 →
+    Encodes bytes fields → after ≡ record seen { has_links = true; parts_len = len } → Sees seen (string_at number bytes) after
+Sees-link seen after number bytes fields len e stands same =
     let f = string_at 6 bytes in
     let part = record (alone f) { links = fields ∷ [] } in
-    let P : ℕ → Type 0 = λ k. Sees seen (string_at k bytes) (record seen { has_parts = true }) in
-    subst P (sym e) (
+    let now = record seen { has_links = true; parts_len = len } in
+    let P : ℕ → Type 0 = λ k. Sees seen (string_at k bytes) after in
+    let Q : ContentView → Type 0 = Sees seen (string_at 6 bytes) in
+    subst P (sym e) (subst Q (sym same) (
       part,
       record { own = refl; links = (stands, tt); usermeta = tt; indexes = tt },
-      IsSeenOf-more seen f part (record seen { has_parts = true }) refl (record {
+      IsSeenOf-more seen f part now refl (record {
         value = refl;
         content_type = refl;
         charset = refl;
         content_encoding = refl;
         deleted = refl;
         misses_key = sym (or-false seen.misses_key);
-        no_parts = λ e. absurd (false≢true (sym e));
+        no_links = λ e. absurd (false≢true (sym e));
+        no_usermeta = λ e. (e, refl);
+        no_indexes = λ e. (e, refl);
       }),
-    )
+    ))
 
-pub Sees-usermeta : (seen : ContentView) (number : ℕ) (bytes : List ℕ) (fields : List WireField) (flag : Bool) → number ≡ 9 →
+pub Sees-usermeta : (seen after : ContentView) (number : ℕ) (bytes : List ℕ) (fields : List WireField) (flag : Bool) (len : ℕ) → number ≡ 9 →
     Encodes bytes fields → flag ≡ (seen.misses_key || is_none (pair_of fields)) →
-    Sees seen (string_at number bytes) (record seen { misses_key = flag; has_parts = true })
-Sees-usermeta seen number bytes fields flag e stands is =
+    after ≡ record seen { misses_key = flag; has_usermeta = true; parts_len = len } → Sees seen (string_at number bytes) after
+Sees-usermeta seen after number bytes fields flag len e stands is same =
     let f = string_at 9 bytes in
     let part = record (alone f) { usermeta = fields ∷ [] } in
-    let P : ℕ → Type 0 = λ k. Sees seen (string_at k bytes) (record seen { misses_key = flag; has_parts = true }) in
-    subst P (sym e) (
+    let now = record seen { misses_key = flag; has_usermeta = true; parts_len = len } in
+    let P : ℕ → Type 0 = λ k. Sees seen (string_at k bytes) after in
+    let Q : ContentView → Type 0 = Sees seen (string_at 9 bytes) in
+    subst P (sym e) (subst Q (sym same) (
       part,
       record { own = refl; links = tt; usermeta = (stands, tt); indexes = tt },
-      IsSeenOf-more seen f part (record seen { misses_key = flag; has_parts = true }) refl (record {
+      IsSeenOf-more seen f part now refl (record {
         value = refl;
         content_type = refl;
         charset = refl;
@@ -311,30 +327,36 @@ Sees-usermeta seen number bytes fields flag e stands is =
             is
             ∙ ap (λ b. seen.misses_key || b) (sym (or-false (is_none (pair_of fields))))
             ∙ ap (λ b. seen.misses_key || b) (sym (or-false (is_none (pair_of fields) || false)));
-        no_parts = λ e. absurd (false≢true (sym e));
+        no_links = λ e. (e, refl);
+        no_usermeta = λ e. absurd (false≢true (sym e));
+        no_indexes = λ e. (e, refl);
       }),
-    )
+    ))
 
-pub Sees-index : (seen : ContentView) (number : ℕ) (bytes : List ℕ) (fields : List WireField) (flag : Bool) → number ≡ 10 →
+pub Sees-index : (seen after : ContentView) (number : ℕ) (bytes : List ℕ) (fields : List WireField) (flag : Bool) (len : ℕ) → number ≡ 10 →
     Encodes bytes fields → flag ≡ (seen.misses_key || is_none (pair_of fields)) →
-    Sees seen (string_at number bytes) (record seen { misses_key = flag; has_parts = true })
-Sees-index seen number bytes fields flag e stands is =
+    after ≡ record seen { misses_key = flag; has_indexes = true; parts_len = len } → Sees seen (string_at number bytes) after
+Sees-index seen after number bytes fields flag len e stands is same =
     let f = string_at 10 bytes in
     let part = record (alone f) { indexes = fields ∷ [] } in
-    let P : ℕ → Type 0 = λ k. Sees seen (string_at k bytes) (record seen { misses_key = flag; has_parts = true }) in
-    subst P (sym e) (
+    let now = record seen { misses_key = flag; has_indexes = true; parts_len = len } in
+    let P : ℕ → Type 0 = λ k. Sees seen (string_at k bytes) after in
+    let Q : ContentView → Type 0 = Sees seen (string_at 10 bytes) in
+    subst P (sym e) (subst Q (sym same) (
       part,
       record { own = refl; links = tt; usermeta = tt; indexes = (stands, tt) },
-      IsSeenOf-more seen f part (record seen { misses_key = flag; has_parts = true }) refl (record {
+      IsSeenOf-more seen f part now refl (record {
         value = refl;
         content_type = refl;
         charset = refl;
         content_encoding = refl;
         deleted = refl;
         misses_key = is ∙ ap (λ b. seen.misses_key || b) (sym (or-false (is_none (pair_of fields))));
-        no_parts = λ e. absurd (false≢true (sym e));
+        no_links = λ e. (e, refl);
+        no_usermeta = λ e. (e, refl);
+        no_indexes = λ e. absurd (false≢true (sym e));
       }),
-    )
+    ))
 
 -- a pair lacks its key where no byte string of number 1 was seen
 pub lacks-first : (part : PairView) (fields : List WireField) (lacks : Bool) → IsPartOf part fields → is_some part.first ≡ not lacks →

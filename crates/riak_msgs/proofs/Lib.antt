@@ -16,4 +16,5 @@ pub mod ContentsWalked
 pub mod ContentsCopied
 pub mod Walks
 pub mod Scans
+pub mod PartsAppended
 pub mod ByteOrder

@@ -12,12 +12,12 @@ use Rattle.riak_msgs.specs.declared.fault.MsgFault.TheVariants.{NoMemory}
 use Rattle.riak_msgs.specs.Picking.{each_bytes}
 use Rattle.riak_msgs.specs.Embedded.{ContentFields, StandForContent}
 use Rattle.riak_msgs.specs.Seen.{Copies, HoldContent, HoldsNone, IsSeenOf, RefusesToCopy, Sees, no_fields, merged, with_parts}
-use Rattle.riak_msgs.specs.SeenRequests.{CopiesOccurrence, HasBadContent, RefusesOccurrence}
+use Rattle.riak_msgs.specs.SeenRequests.{HasBadContent, RefusesOccurrence}
 use Rattle.riak_msgs.specs.declared.reply_view.ReplyView.{ReplyView}
 use Rattle.riak_msgs.specs.ReadingReplies.{ShownFields, EncodesShown}
 use Rattle.riak_msgs.specs.SeenReplies.{ContentsIn, HasSeenReply, IsSeenReply, RefusesContent, no_reply}
 use Rattle.riak_msgs.proofs.Picking.{each_bytes-append, AllZip-append, AllZip-split}
-use Rattle.riak_msgs.proofs.Contents.{StandForContent-nil, StandForContent-append, StandForContent-split, with_parts-merged, with_parts-no_fields}
+use Rattle.riak_msgs.proofs.Contents.{StandForContent-split, with_parts-merged, with_parts-no_fields}
 use Rattle.riak_msgs.proofs.ContentsWalked.{HoldContent-nil, HoldContent-append, HoldContent-split}
 use Rattle.riak_msgs.proofs.ContentsCopied.{merged-merged, merged-no_fields}
 use Rattle.riak_msgs.proofs.RepliesSteps.{EachContent}
@@ -72,21 +72,6 @@ pub parts_not_copied : (fields : List WireField) (fault : MsgFault) (part : Cont
     HoldContent fields part → fault ≡ NoMemory
 parts_not_copied fields fault part (before, field, behind, e, refused) holds =
     let one = one_held fields before field behind part e holds in refused one.0 one.1
-
--- the parts of each occurrence of a put's content were copied
-pub occurrences_copied : {A : Type 0} (content : A → Content) (before after : A) (fields : List WireField) →
-    MergesAll (λ a f b. CopiesOccurrence (content a) f (content b)) before fields after →
-    (part : ContentFields) × StandForContent (each_bytes 4 fields) part × (content after ≡ with_parts (content before) part)
-occurrences_copied content before after [] e =
-    (no_fields, StandForContent-nil, ap content (sym e) ∙ sym (with_parts-no_fields (content before)))
-occurrences_copied content before after (f ∷ fs) (next, first, rest) =
-    let tail = occurrences_copied content next after fs rest in
-    let P : List (List ℕ) → Type 0 = λ bss. StandForContent bss (merged first.0 tail.0) in (
-      merged first.0 tail.0,
-      subst P (sym (each_bytes-append 4 (f ∷ []) fs))
-          (StandForContent-append (each_bytes 4 (f ∷ [])) (each_bytes 4 fs) first.0 tail.0 first.1 tail.1),
-      tail.2 ∙ ap (λ c. with_parts c tail.0) first.2 ∙ with_parts-merged (content before) first.0 tail.0,
-    )
 
 -- the occurrences in one field of a put
 one_occurrence : (fields before : List WireField) (field : WireField) (behind : List WireField) (part : ContentFields) →

@@ -15,6 +15,7 @@ pub mod EncodedContents
 pub mod ContentOnce
 pub mod KeptContent
 pub mod Seen
+pub mod Parts
 pub mod SeenContents
 pub mod SeenRequests
 pub mod Reading

@@ -25,7 +25,7 @@ misses_key pairs = list_any (λ pair. is_none (pair_of pair)) pairs
 abbrev pub HasNoParts : ContentFields → Type 0
 HasNoParts c = (c.links ≡ []) × (c.usermeta ≡ []) × (c.indexes ≡ [])
 
--- the last of each scalar was seen, whether some pair lacks its key, and whether there are links or pairs
+-- the last of each scalar was seen, whether some pair lacks its key, and which links and pairs there are
 pub record IsSeenOf (seen : ContentView) (c : ContentFields) : Type 0 where
   pub value : option_copied seen.value ≡ last_bytes 1 c.own
   pub content_type : option_copied seen.content_type ≡ last_bytes 2 c.own
@@ -33,7 +33,9 @@ pub record IsSeenOf (seen : ContentView) (c : ContentFields) : Type 0 where
   pub content_encoding : option_copied seen.content_encoding ≡ last_bytes 4 c.own
   pub deleted : seen.deleted ≡ flag_of 11 c.own
   pub misses_key : seen.misses_key ≡ misses_key c.usermeta || misses_key c.indexes
-  pub no_parts : seen.has_parts ≡ false → HasNoParts c
+  pub no_links : seen.has_links ≡ false → c.links ≡ []
+  pub no_usermeta : seen.has_usermeta ≡ false → c.usermeta ≡ []
+  pub no_indexes : seen.has_indexes ≡ false → c.indexes ≡ []
 
 -- the content's fields are these, and each message in them stands for its fields
 pub record HoldContent (fields : List WireField) (c : ContentFields) : Type 0 where

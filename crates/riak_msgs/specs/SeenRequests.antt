@@ -1,17 +1,18 @@
 -- What a walk over a request's fields has seen, as it lies in the input.
-use Rattle.std.specs.Prelude.{◌≡◌, ℕ, List, [], ◌∷◌, Some, option_copied}
+use Rattle.std.specs.Prelude.{◌≡◌, ℕ, List, [], ◌∷◌, ◌++◌, Some, option_copied}
 use Rattle.pb_fields.specs.Field.{WireField}
 use Rattle.riak_msgs.specs.declared.key_view.KeyView.{KeyView}
 use Rattle.riak_msgs.specs.declared.read_get.GetView.{GetView}
 use Rattle.riak_msgs.specs.declared.read_put.PutFlags.{PutFlags}
 use Rattle.riak_msgs.specs.declared.read_put.PutView.{PutView}
+use Rattle.riak_msgs.specs.declared.read_put.PutParts.{PutParts}
 use Rattle.riak_msgs.specs.declared.read_del.DelView.{DelView}
-use Rattle.riak_msgs.specs.Contents.{Content}
 use Rattle.riak_msgs.specs.declared.fault.MsgFault.{MsgFault}
 use Rattle.riak_msgs.specs.declared.fault.MsgFault.TheVariants.{NoMemory}
 use Rattle.riak_msgs.specs.Picking.{bytes_at, each_bytes, last_bytes, flag_of}
 use Rattle.riak_msgs.specs.Embedded.{ContentFields, StandForContent}
-use Rattle.riak_msgs.specs.Seen.{IsSeenOf, no_fields, with_parts}
+use Rattle.riak_msgs.specs.Seen.{IsSeenOf, no_fields}
+use Rattle.riak_msgs.specs.Parts.{parts_in, parts_message}
 use Rattle.riak_msgs.specs.Reading.{PutFields}
 
 -- the last of each name was seen; a type has this field number
@@ -57,10 +58,12 @@ abbrev pub HasSeenPut : PutView → List WireField → Type 0
 HasSeenPut view fields =
     (put : PutFields) × (put.own ≡ fields) × StandForContent (each_bytes 4 fields) put.content × IsSeenPutOf view put
 
--- the links and pairs of the content's occurrence that a field is, if it is one, were put behind the content's
-abbrev pub CopiesOccurrence : Content → WireField → Content → Type 0
-CopiesOccurrence before field after =
-    (part : ContentFields) × StandForContent (each_bytes 4 (field ∷ [])) part × (after ≡ with_parts before part)
+-- the links or pairs in the content's occurrence that a field is, if it is one, were appended
+abbrev pub AppendsOccurrence : PutParts → WireField → PutParts → Type 0
+AppendsOccurrence before field after =
+    (after.parts.kind ≡ before.parts.kind)
+    × ((part : ContentFields) → StandForContent (each_bytes 4 (field ∷ [])) part →
+    after.parts.out.items ≡ before.parts.out.items ++ parts_message before.parts.kind (parts_in before.parts.kind part))
 
 -- where it stands for a content, only memory is refused
 abbrev pub RefusesOccurrence : WireField → MsgFault → Type 0

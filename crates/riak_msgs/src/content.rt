@@ -50,6 +50,7 @@ impl Model for Content {
 }
 
 impl Content {
+    ghost use Rattle.riak_msgs.specs.Content.{Content};
     ghost use Rattle.riak_msgs.specs.Contents.{bare, no_content};
     ghost use Rattle.riak_msgs.specs.Embedded.{ContentFields, StandForContent, content_of};
     ghost use Rattle.riak_msgs.specs.Seen.{IsSeenOf};
@@ -71,6 +72,17 @@ impl Content {
     {
         let encoding = ArcSlice::from_vec(write_encoding(alloc, &Detailed { value, details })?)?;
         Ok(Content { encoding })
+    }
+
+    /// The content of this encoding.
+    pub(crate) fn of_encoding(encoding: Vec<u8>) -> Result<Content, AllocError>
+        requires { (content : Content) × (encoding.items ≡ content_message content) }
+        ensures { (content : Content) → encoding.items ≡ content_message content
+            → IfOk result (λ kept. kept ≡ content) }
+    {
+        Ok(Content {
+            encoding: ArcSlice::from_vec(encoding)?,
+        })
     }
 
     /// The encoding.

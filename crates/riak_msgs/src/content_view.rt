@@ -1,18 +1,21 @@
 //! What a walk over a content's fields sees, without memory; and the content that is then made of it.
 
-ghost use Rattle.std.specs.Prelude.{◌≡◌, ◌∷◌, [], IfOk, IfErr, OnOk, OnErr, is_some};
-ghost use Rattle.pb_fields.specs.Field.{byte_string};
-ghost use Rattle.riak_msgs.specs.Embedded.{ContentFields, StandForContent, content_of};
+ghost use Rattle.std.specs.Prelude.{◌≡◌, ◌∷◌, ◌||◌, [], false, List, IfOk, IfErr, OnOk, OnErr, is_none, is_some};
+ghost use Rattle.pb_fields.specs.Field.{IsNumber, WireField, byte_string};
+ghost use Rattle.pb_fields.specs.Message.{Encodes};
+ghost use Rattle.riak_msgs.specs.ContentEncoding.{content_message};
+ghost use Rattle.riak_msgs.specs.Embedded.{ContentFields, StandForContent, content_of, pair_of};
 ghost use Rattle.riak_msgs.specs.SeenContents.{content_in};
-ghost use Rattle.riak_msgs.specs.Seen.{Copies, HoldsNone, IsSeenOf, RefusesToCopy, Sees};
+ghost use Rattle.riak_msgs.specs.Seen.{Copies, HasNoParts, HoldsNone, IsSeenOf, RefusesToCopy, Sees};
 ghost use Rattle.riak_msgs.specs.Seen.{no_fields, merged, scalars_of, with_parts};
 
 use crate::content::Content;
 use crate::details::Details;
+use crate::encode::encode_optional;
 use crate::fault::MsgFault;
 use crate::pairs_and_links::{PairView, push_link, push_pair};
 use crate::sequence::Sequence;
-use pb_fields::{Field, FieldFault, Merge, Value, scan};
+use pb_fields::{Field, FieldFault, LengthCounter, Merge, Message, Output, Value, encode_message, scan};
 use std::alloc::{AllocError, Global};
 
 /// The last of each scalar of a content, borrowed from the message, over all its occurrences so far.
@@ -26,8 +29,12 @@ pub(crate) struct ContentView<'a> {
     pub(crate) deleted: bool,
     /// Whether some pair lacks its key.
     pub(crate) misses_key: bool,
-    /// Whether a link or a pair is in it.
-    pub(crate) has_parts: bool,
+    /// Whether links are in it, pairs of metadata, and pairs of indexes.
+    pub(crate) has_links: bool,
+    pub(crate) has_usermeta: bool,
+    pub(crate) has_indexes: bool,
+    /// How many bytes the encoding of these has.
+    pub(crate) parts_len: usize,
 }
 
 impl<'a> ContentView<'a> {
@@ -42,7 +49,10 @@ impl<'a> ContentView<'a> {
             content_encoding: None,
             deleted: false,
             misses_key: false,
-            has_parts: false,
+            has_links: false,
+            has_usermeta: false,
+            has_indexes: false,
+            parts_len: 0,
         }
     }
 
@@ -70,17 +80,79 @@ impl<'a> ContentView<'a> {
             3 => self.charset = Some(bytes),
             4 => self.content_encoding = Some(bytes),
             6 => {
-                PairView::read(bytes)?;
-                self.has_parts = true;
+                self.merge_link(bytes)?;
+                self.has_links = true;
             }
-            9 | 10 => {
-                let pair = PairView::read(bytes)?;
-                self.misses_key |= pair.first.is_none();
-                self.has_parts = true;
+            9 => {
+                self.merge_pair(number, bytes)?;
+                self.has_usermeta = true;
+            }
+            10 => {
+                self.merge_pair(number, bytes)?;
+                self.has_indexes = true;
             }
             _ => {}
         }
         Ok(())
+    }
+
+    // Looks into one more link.
+    fn merge_link(&mut self, bytes: &'a [u8]) -> Result<(), FieldFault>
+        ensures ok { OnOk result ((fields : List WireField) × Encodes bytes.now fields
+            × (self.new ≡ record self.old { parts_len = self.new.parts_len })) }
+        ensures err { OnErr result ((fields : List WireField) → Encodes bytes.now fields → ⊥) }
+    {
+        let part = PairView::read(bytes)?;
+        self.parts_len = len_with(self.parts_len, 6, &part.link());
+        Ok(())
+    }
+
+    // Looks into one more pair.
+    fn merge_pair(&mut self, number: u32, bytes: &'a [u8]) -> Result<(), FieldFault>
+        requires { IsNumber number }
+        ensures ok { OnOk result ((fields : List WireField) × Encodes bytes.now fields
+            × (self.new ≡ record self.old {
+              misses_key = self.old.misses_key || is_none (pair_of fields);
+              parts_len = self.new.parts_len;
+            })) }
+        ensures err { OnErr result ((fields : List WireField) → Encodes bytes.now fields → ⊥) }
+    {
+        let part = PairView::read(bytes)?;
+        match part.pair() {
+            Some(pair) => self.parts_len = len_with(self.parts_len, number, &pair),
+            None => self.misses_key = true,
+        }
+        Ok(())
+    }
+
+    /// Whether links or pairs are in it.
+    pub(crate) fn has_parts(&self) -> bool
+        ensures { (c : ContentFields) → IsSeenOf self.now c → result ≡ false → HasNoParts c }
+    {
+        self.has_links || self.has_usermeta || self.has_indexes
+    }
+
+    /// The encoding of its scalars, with room behind it for that of the links and pairs.
+    pub(crate) fn begin_encoding(&self, alloc: Global) -> Result<Vec<u8>, AllocError>
+        ensures { (c : ContentFields) → IsSeenOf self.now c
+            → IfOk result (λ out. out.items ≡ content_message (scalars_of c)) }
+    {
+        let mut len = LengthCounter { len: self.parts_len };
+        self.encode_scalars(&mut len)?;
+        let mut out = Vec::with_capacity(alloc, len.len)?;
+        self.encode_scalars(&mut out)?;
+        Ok(out)
+    }
+
+    // Encodes its scalars.
+    fn encode_scalars<O: Output>(&self, out: &mut O) -> Result<(), AllocError>
+        ensures { (c : ContentFields) → IsSeenOf self.now c
+            → OnOk result (O.appends out.old (content_message (scalars_of c)) out.new) }
+    {
+        out.encode_bytes(1, self.value.unwrap_or(&[]))?;
+        encode_optional(out, 2, self.content_type)?;
+        encode_optional(out, 3, self.charset)?;
+        encode_optional(out, 4, self.content_encoding)
     }
 
     /// Whether nothing that is required is missing.
@@ -116,7 +188,7 @@ impl<'a> ContentView<'a> {
             → IfErr result (λ fault. fault ≡ MsgFault.NoMemory) }
     {
         let mut parts = self.scalars(alloc);
-        if self.has_parts {
+        if self.has_parts() {
             merge_parts(bytes, &mut parts)?;
         }
         Ok(parts)
@@ -141,6 +213,18 @@ impl<'a> Merge<'a> for ContentView<'a> {
             }
             Value::Eight(_) | Value::Four(_) => Ok(()),
         }
+    }
+}
+
+// The length of fields so far, and of the number's field with this message. (It only says for how much room is made.)
+#[inline(always)]
+fn len_with<M: Message>(len: usize, number: u32, message: &M) -> usize
+    requires { IsNumber number }
+{
+    let mut counter = LengthCounter { len };
+    match encode_message(&mut counter, number, message) {
+        Ok(()) => counter.len,
+        Err(_) => len,
     }
 }
 

@@ -52,6 +52,7 @@ mod laws;
 mod link;
 mod pair;
 mod pairs_and_links;
+mod parts_encoder;
 mod put;
 mod read_del;
 mod read_get;

@@ -31,6 +31,7 @@ impl<'a> Model for Link<'a> {
 impl<'a> Message for Link<'a> {
     ghost encoding = { link_message };
 
+    #[inline(always)]
     fn encode<O: Output>(&self, out: &mut O) -> Result<(), AllocError> {
         encode_optional(out, 1, self.bucket)?;
         encode_optional(out, 2, self.key)?;

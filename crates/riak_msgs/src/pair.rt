@@ -26,6 +26,7 @@ impl<'a> Model for Pair<'a> {
 impl<'a> Message for Pair<'a> {
     ghost encoding = { pair_message };
 
+    #[inline(always)]
     fn encode<O: Output>(&self, out: &mut O) -> Result<(), AllocError> {
         out.encode_bytes(1, self.key)?;
         encode_optional(out, 2, self.value)

@@ -43,6 +43,7 @@ impl<'a> Merge<'a> for PairView<'a> {
 
 impl<'a> PairView<'a> {
     /// What these bytes have. Refused where they stand for no list of fields.
+    #[inline(always)]
     pub(crate) fn read(bytes: &'a [u8]) -> Result<PairView<'a>, FieldFault>
         ensures ok { IfOk result (λ part. (fields : List WireField) × Encodes bytes.now fields
             × IsPartOf part fields) }
@@ -55,6 +56,32 @@ impl<'a> PairView<'a> {
         };
         scan(bytes, &mut part)?;
         Ok(part)
+    }
+
+    /// The link that it is.
+    #[inline(always)]
+    pub(crate) fn link(&self) -> Link<'a>
+        ensures { (fields : List WireField) → IsPartOf self.now fields → result ≡ link_of fields }
+    {
+        Link {
+            bucket: self.first,
+            key: self.second,
+            tag: self.third,
+        }
+    }
+
+    /// The pair that it is, if it has a key.
+    #[inline(always)]
+    pub(crate) fn pair(&self) -> Option<Pair<'a>>
+        ensures { (fields : List WireField) → IsPartOf self.now fields → result ≡ pair_of fields }
+    {
+        match self.first {
+            Some(key) => Some(Pair {
+                key,
+                value: self.second,
+            }),
+            None => None,
+        }
     }
 }
 

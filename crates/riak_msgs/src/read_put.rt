@@ -1,20 +1,21 @@
 //! Reading a put.
 
-ghost use Rattle.std.specs.Prelude.{◌≡◌, ◌∷◌, ◌++◌, [], List, None, IfOk, IfErr, OnErr};
+ghost use Rattle.std.specs.Prelude.{◌≡◌, ◌∷◌, ◌++◌, [], false, List, None, IfOk, IfErr, OnErr};
 ghost use Rattle.pb_fields.specs.Field.{WireField, seen};
 ghost use Rattle.pb_fields.specs.Merging.{Tracks};
 ghost use Rattle.riak_msgs.specs.Reading.{PutFields, EncodesPut, Reads, put_fault, put_of};
-ghost use Rattle.riak_msgs.specs.Seen.{scalars_of, with_parts};
-ghost use Rattle.riak_msgs.specs.SeenContents.{content_in};
-ghost use Rattle.riak_msgs.specs.SeenRequests.{AreFlagsOf, CopiesOccurrence, HasBadContent, HasSeenPut, IsSeenPutOf};
+ghost use Rattle.riak_msgs.specs.Seen.{IsSeenOf, scalars_of, with_parts};
+ghost use Rattle.riak_msgs.specs.Parts.{parts_in, parts_message};
+ghost use Rattle.riak_msgs.specs.SeenRequests.{AppendsOccurrence, AreFlagsOf, HasBadContent, HasSeenPut, IsSeenPutOf};
 ghost use Rattle.riak_msgs.specs.SeenRequests.{RefusesOccurrence, no_put};
 
 use crate::bytes::Bytes;
 use crate::content::Content;
-use crate::content_view::{ContentView, PartsView, merge_parts};
+use crate::content_view::ContentView;
 use crate::fault::MsgFault;
 use crate::field_access::{bytes_at, keep_flag, keep_last};
 use crate::key_view::KeyView;
+use crate::parts_encoder::{PartKind, PartsEncoder};
 use crate::put::PutAsk;
 use crate::request::Request;
 use pb_fields::{Field, FieldFault, Merge, scan};
@@ -133,6 +134,7 @@ impl<'a> PutView<'a> {
 
     /// A copy of what is asked, where nothing is missing.
     fn ask(&self, alloc: Global, body: &'a [u8]) -> Result<PutAsk, MsgFault>
+        requires { (put : PutFields) × EncodesPut body.now put × IsSeenPutOf self.now put }
         ensures ok { (put : PutFields) → IsSeenPutOf self.now put → EncodesPut body.now put
             → None ≡ put_fault put → IfOk result (λ ask. ask ≡ put_of put) }
         ensures err { (put : PutFields) → IsSeenPutOf self.now put → EncodesPut body.now put
@@ -149,22 +151,63 @@ impl<'a> PutView<'a> {
         })
     }
 
-    /// The content. Where links or pairs were seen in it the body is scanned once more, to list them.
-    /// (Apart from the others, since each value that is held at a `?` costs the prover time.)
+    /// The content. (Apart from the others, since each value that is held at a `?` costs the prover time.)
     fn content(&self, alloc: Global, body: &'a [u8]) -> Result<Content, MsgFault>
+        requires { (put : PutFields) × EncodesPut body.now put × IsSeenPutOf self.now put }
         ensures ok { (put : PutFields) → IsSeenPutOf self.now put → EncodesPut body.now put
             → IfOk result (λ content. content ≡ with_parts (scalars_of put.content) put.content) }
         ensures err { (put : PutFields) → IsSeenPutOf self.now put → EncodesPut body.now put
             → IfErr result (λ fault. fault ≡ MsgFault.NoMemory) }
     {
-        let scalars = self.content.scalars(alloc);
-        let parts = if self.content.has_parts {
-            merge_contents(body, scalars)?
+        if self.content.has_parts() {
+            content_with_parts(alloc, self.content, body)
         } else {
-            scalars
-        };
-        Ok(parts.content(alloc)?)
+            Ok(self.content.scalars(alloc).content(alloc)?)
+        }
     }
+}
+
+/// The content of a put that was seen to have links or pairs. The body is scanned once more for each of their numbers, since the
+/// encoding has them by their numbers. (By a copy of the view, since a view whose place is handed on stays in memory for each put.)
+fn content_with_parts(
+    alloc: Global,
+    view: ContentView<'_>,
+    body: &[u8],
+) -> Result<Content, MsgFault>
+    requires { (put : PutFields) × EncodesPut body.now put × IsSeenOf view put.content }
+    ensures ok { (put : PutFields) → IsSeenOf view.entry put.content → EncodesPut body.now put
+        → IfOk result (λ content. content ≡ with_parts (scalars_of put.content) put.content) }
+    ensures err { (put : PutFields) → EncodesPut body.now put
+        → IfErr result (λ fault. fault ≡ MsgFault.NoMemory) }
+{
+    let scalars = view.begin_encoding(alloc)?;
+    let links = append_parts(view.has_links, PartKind::Link, body, scalars)?;
+    let usermeta = append_parts(view.has_usermeta, PartKind::Usermeta, body, links)?;
+    let encoding = append_parts(view.has_indexes, PartKind::Index, body, usermeta)?;
+    Ok(Content::of_encoding(encoding)?)
+}
+
+/// Appends the encoding of the links or pairs of one kind, if there are some. The body was seen before, so only memory can be refused.
+fn append_parts(
+    are_there: bool,
+    kind: PartKind,
+    body: &[u8],
+    out: Vec<u8>,
+) -> Result<Vec<u8>, MsgFault>
+    ensures ok { (put : PutFields) → (are_there ≡ false → parts_in kind put.content ≡ [])
+        → EncodesPut body.now put → IfOk result (λ after.
+        after.items ≡ out.items ++ parts_message kind (parts_in kind put.content)) }
+    ensures err { (put : PutFields) → EncodesPut body.now put
+        → IfErr result (λ fault. fault ≡ MsgFault.NoMemory) }
+{
+    if !are_there {
+        return Ok(out);
+    }
+    let mut put = PutParts {
+        parts: PartsEncoder { kind, out },
+    };
+    scan(body, &mut put)?;
+    Ok(put.parts.out)
 }
 
 impl<'a> Merge<'a> for PutView<'a> {
@@ -185,38 +228,23 @@ impl<'a> Merge<'a> for PutView<'a> {
     }
 }
 
-/// The content of a put, into which the links and pairs of each occurrence are merged.
+/// The links or pairs of one kind in each occurrence of a put's content.
 #[derive(Drop)]
-pub(crate) struct PutParts<'a> {
-    pub(crate) parts: PartsView<'a>,
+struct PutParts {
+    parts: PartsEncoder,
 }
 
-impl<'a> Merge<'a> for PutParts<'a> {
+impl<'a> Merge<'a> for PutParts {
     type Fault = MsgFault;
 
-    ghost merges = { λ before field after.
-        CopiesOccurrence (content_in before.parts) field (content_in after.parts) };
+    ghost merges = { AppendsOccurrence };
 
     ghost refuses = { RefusesOccurrence };
 
     fn merge_field(&mut self, field: Field<'a>) -> Result<(), MsgFault> {
         match bytes_at(CONTENT, field) {
-            Some(bytes) => merge_parts(bytes, &mut self.parts),
+            Some(bytes) => self.parts.append_occurrence(bytes),
             None => Ok(()),
         }
     }
-}
-
-/// The content with the links and pairs of all its occurrences in a put's body behind its own.
-///
-/// The body was seen before, so only memory can be refused.
-fn merge_contents<'a>(body: &'a [u8], parts: PartsView<'a>) -> Result<PartsView<'a>, MsgFault>
-    ensures ok { (put : PutFields) → EncodesPut body.now put
-        → IfOk result (λ whole. content_in whole ≡ with_parts (content_in parts.entry) put.content) }
-    ensures err { (put : PutFields) → EncodesPut body.now put
-        → IfErr result (λ fault. fault ≡ MsgFault.NoMemory) }
-{
-    let mut put = PutParts { parts };
-    scan(body, &mut put)?;
-    Ok(put.parts)
 }

@@ -1,15 +1,12 @@
-use Rattle.std.proofs.Common.{◌≡◌, List, ap, subst, ◌∙◌}
+use Rattle.std.proofs.Common.{◌≡◌, List, subst}
 use Rattle.std.proofs.lemmas.Result.{err_from_is_err_and}
 use Rattle.pb_fields.specs.Field.{WireField}
 use Rattle.pb_fields.proofs.Lists.{fields_once}
-use Rattle.riak_msgs.specs.Picking.{each_bytes}
 use Rattle.riak_msgs.specs.Embedded.{StandForContent}
-use Rattle.riak_msgs.specs.Seen.{with_parts}
-use Rattle.riak_msgs.specs.SeenContents.{content_in}
-use Rattle.riak_msgs.specs.declared.read_put.PutParts.{PutParts}
-use Rattle.riak_msgs.specs.ContentOnce.{content_once}
-use Rattle.riak_msgs.proofs.Scans.{occurrences_copied, occurrences_not_copied}
-use Rattle.riak_msgs.proofs.read_put.merge_contents.Goals as goal
+use Rattle.riak_msgs.specs.Picking.{each_bytes}
+use Rattle.riak_msgs.proofs.PartsAppended.{occurrences_appended}
+use Rattle.riak_msgs.proofs.Scans.{occurrences_not_copied}
+use Rattle.riak_msgs.proofs.read_put.append_parts.Goals as goal
 
 pub returns-in_err-scan-clause-err : goal.returns-in_err-scan-clause-err
 returns-in_err-scan-clause-err c = λ put stands.
@@ -18,9 +15,8 @@ returns-in_err-scan-clause-err c = λ put stands.
     (occurrences_not_copied put.own c.in_err-scan.field-0.0 put.content (c.in_err-scan.ensures.err put.own stands.own) stands.content)
 
 pub returns-clause-ok : goal.returns-clause-ok
-returns-clause-ok c = λ put stands.
+returns-clause-ok c = λ put seen stands.
     let (fields, same, all) = c.in_ok-scan.ensures.ok in
-    let (part, parts, is) = occurrences_copied (λ (x : PutParts). content_in x.parts) _ c.scan.new.into fields all in
     let P : List WireField → Type 0 = λ fs. StandForContent (each_bytes 4 fs) put.content in
     let own : put.own ≡ fields = fields_once c.args.body.now put.own fields stands.own same in
-    is ∙ ap (with_parts (content_in c.args.parts)) (content_once (each_bytes 4 fields) part put.content parts (subst P own stands.content))
+    (occurrences_appended _ c.scan.new.into fields all).1 put.content (subst P own stands.content)
