@@ -172,9 +172,21 @@ impl<'a> Context<'a> {
         let mut bytes = Vec::with_capacity(alloc, 1 + ENTRY_LEN * pairs.len())?;
         bytes.push(WRITTEN_VERSION)?;
         for pair in pairs {
-            bytes.extend_from_slice(&bytes_of(pair.0, pair.1))?;
+            bytes.extend_from_slice(&Context::pair_bytes(pair.0, pair.1))?;
         }
         Ok(bytes)
+    }
+
+    /// The bytes of a pair as a context is written: behind the byte 2 those of each of its pairs stand so. It takes no memory.
+    #[inline(always)]
+    pub fn pair_bytes(actor: Actor, counter: Counter) -> [u8; 20]
+        ensures { result ≡ entry_bytes Two (entry_of (actor, counter)) }
+    {
+        let mut bytes = [0; ENTRY_LEN];
+        BigEndian::write_u64(&mut bytes, actor.vnode);
+        BigEndian::write_u32(&mut bytes[8..], actor.epoch);
+        BigEndian::write_u64(&mut bytes[12..], counter);
+        bytes
     }
 }
 
@@ -210,16 +222,4 @@ fn is_next(last: Option<Actor>, actor: Actor, counter: Counter) -> bool
         Some(last) => last < actor,
     };
     is_above && 1 <= actor.epoch && 1 <= counter
-}
-
-/// The 20 bytes of a pair, as it is written.
-#[inline(always)]
-fn bytes_of(actor: Actor, counter: Counter) -> [u8; 20]
-    ensures { result ≡ entry_bytes Two (entry_of (actor, counter)) }
-{
-    let mut bytes = [0; ENTRY_LEN];
-    BigEndian::write_u64(&mut bytes, actor.vnode);
-    BigEndian::write_u32(&mut bytes[8..], actor.epoch);
-    BigEndian::write_u64(&mut bytes[12..], counter);
-    bytes
 }

@@ -1,6 +1,6 @@
 //! What is stored under a key.
 
-ghost use Rattle.std.specs.Prelude.{◌≡◌, ◌<◌, ◌^◌, ◌∷◌, ◌++◌, [], Some, length, IfOk, IsOkUnless};
+ghost use Rattle.std.specs.Prelude.{◌≡◌, ◌<◌, ◌^◌, ◌∷◌, ◌++◌, [], Some, length, IfOk, OnOk, IsOkUnless};
 ghost use Rattle.pb_fields.specs.Encoding.{bytes_field};
 ghost use Rattle.riak_msgs.specs.ContentEncoding.{content_message};
 ghost use Rattle.riak_msgs.specs.Details.{content_with, details_message};
@@ -134,14 +134,32 @@ impl Content {
         })
     }
 
-    /// A copy with an empty value: the value's bytes are neither copied nor given room.
-    pub fn clone_head(&self, alloc: Global) -> Result<Content, AllocError>
-        ensures { IfOk result (λ copy. copy ≡ bare self.now) }
+    /// What of the encoding is behind the value's field.
+    fn encoded_details(&self) -> Result<&[u8], AllocError>
+        ensures { IfOk result (λ details.
+            content_message (bare self.now) ≡ EMPTY_VALUE.now ++ details.now) }
     {
         let encoding = self.encoding();
         let mut head = LengthCounter { len: 0 };
         head.encode_bytes(1, self.value())?;
-        let details = &encoding[head.len..];
+        Ok(&encoding[head.len..])
+    }
+
+    /// Encodes it with an empty value.
+    #[inline(always)]
+    pub(crate) fn encode_head<O: Output>(&self, out: &mut O) -> Result<(), AllocError>
+        ensures { OnOk result (O.appends out.old (content_message (bare self.now)) out.new) }
+    {
+        out.append_encoded(EMPTY_VALUE)?;
+        out.append_encoded(self.encoded_details()?)?;
+        Ok(())
+    }
+
+    /// A copy with an empty value: the value's bytes are neither copied nor given room.
+    pub fn clone_head(&self, alloc: Global) -> Result<Content, AllocError>
+        ensures { IfOk result (λ copy. copy ≡ bare self.now) }
+    {
+        let details = self.encoded_details()?;
         let mut bytes = Vec::with_capacity(alloc, details.len().saturating_add(EMPTY_VALUE.len()))?;
         bytes.append_encoded(EMPTY_VALUE)?;
         bytes.append_encoded(details)?;

@@ -86,5 +86,5 @@ pub use request::{Request, read_request};
 pub use request_encoding::write_request;
 pub use round_trips::{replies_are_read_again, requests_are_read_again};
 pub use sequence::Sequence;
-pub use shown::Shown;
+pub use shown::{Shown, ShownSibling};
 pub use text::{Text, text_of};

@@ -5,5 +5,5 @@ use Rattle.actor_epoch.proofs.context.Context.write.Goals as goal
 pub loop-pair-preserved : goal.loop-pair-preserved
 loop-pair-preserved c =
     c.in_ok-extend_from_slice.ensures.items
-    ∙ (λ i. c.loop-pair.invariant i ++ c.bytes_of.ensures i)
+    ∙ (λ i. c.loop-pair.invariant i ++ c.pair_bytes.ensures i)
     ∙ sym (encoding-take c.args.pairs.now c.loop-pair.pair-index _ c.loop-pair-test.true)
