@@ -20,3 +20,4 @@ pub mod Emptied
 pub mod Walks
 pub mod Ahead
 pub mod SyncSizes
+pub mod Pairs

@@ -93,6 +93,14 @@ module _ {V : Type 0} where
         pairs_are : IsVersionVector (known_with pairs (known_of entries))
         pairs_are = rw (← known_is) (IsVersionVector-known_of (entries_without pairs entries) after)
 
+    -- those of the entries, the new ones of the context, and one, are the most
+    pub after-new : (a : Actor) → length (known_after a (known_with pairs (known_of entries))) ≤ length entries + count_new (entries_of_pairs (unwrap_or pairs [])) entries + 1
+    after-new a = one_at_most (nat_le 1 (counter_in (known_with pairs (known_of entries)) a)) _ _ (after-length a)
+      where
+        one_at_most : (b : Bool) (l k : ℕ) → l ≡ cond b k (k + 1) → l ≤ k + 1
+        one_at_most true l k e = omega arith
+        one_at_most false l k e = omega arith
+
     -- those of the entries, of the context, and one, are the most
     pub after-most : (a : Actor) → length (known_after a (known_with pairs (known_of entries))) ≤ length entries + length (unwrap_or pairs []) + 1
     after-most a =

@@ -1,6 +1,6 @@
 //! A dotted version vector set.
 
-ghost use Rattle.std.specs.Prelude.{◌≡◌, ◌<◌, ◌≤◌, ◌↔◌, [], true, false, length, map, OnOk, OnErr, IfOk, IfErr, None, Some, unwrap_or};
+ghost use Rattle.std.specs.Prelude.{◌≡◌, ◌<◌, ◌≤◌, ◌↔◌, [], true, false, length, map, OnOk, OnErr, IfOk, IfErr, None, Some, unwrap_or, nat_le};
 
 use crate::clone_value::CloneValue;
 use crate::entry::{self, Entry};
@@ -221,6 +221,19 @@ impl<V: MadeWith<Global> + Drop> Clock<V> {
         room::uncovered(&self.entries, context)
     }
 
+    /// Whether it has so many values, or more, that a context doesn't cover (None: all). Where it has fewer values at all, the
+    /// context isn't looked at.
+    #[inline(always)]
+    pub fn has_uncovered(&self, context: Option<&Context<'_>>, many: u128) -> bool
+        ensures { result
+            ≡ nat_le many (uncovered (unwrap_or (pairs_of context.entry) []) self.now.meaning) }
+    {
+        if self.uncovered(None) < many {
+            return false;
+        }
+        many <= self.uncovered(context)
+    }
+
     /// What the next event of an actor needs, without what a context saw (None: nothing).
     pub fn needed(&self, context: Option<&Context<'_>>, actor: Actor) -> Needed
         ensures actors { result.actors
@@ -258,7 +271,8 @@ impl<V: MadeWith<Global> + Drop> Clock<V> {
         ensures ready { OnOk result (IsReady self.new (pairs_of context.entry) actor) }
         ensures unchanged { self.new.meaning ≡ self.old.meaning }
     {
-        let (_, more) = room::required_room(&self.entries, context, actor);
+        let room = self.entries.capacity();
+        let more = room::more_entries(&self.entries, room, context, actor);
         entry::reserve_room(&mut self.entries, more)
     }
 

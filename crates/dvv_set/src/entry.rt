@@ -109,6 +109,7 @@ pub(crate) enum Place {
 }
 
 /// Searches the entry of an actor.
+#[inline(always)]
 pub(crate) fn search_actor<V>(entries: &[Entry<V>], actor: Actor) -> Place
     ensures { result ≡ search_actor actor (clock_entries entries.now) }
 {
@@ -123,6 +124,7 @@ pub(crate) fn search_actor<V>(entries: &[Entry<V>], actor: Actor) -> Place
 }
 
 /// Searches the entry of an actor behind the first entries, which are below it.
+#[inline(always)]
 fn search_behind<V>(entries: &[Entry<V>], first: usize, actor: Actor) -> Place
     requires within { first ≤ length entries.now }
     requires below { IsTrue (are_below actor (clock_entries (take first entries.now))) }
@@ -206,6 +208,77 @@ pub(crate) fn merge_entry<V: MadeWith<Global> + Drop>(
     }
 }
 
+/// Merges a pair into the entry of its actor, as an entry without values: of these the ones up to its counter go.
+#[inline(always)]
+fn cover<V: MadeWith<Global> + Drop>(own: &mut Entry<V>, counter: Counter)
+    ensures merged { clock_entry own.new
+        ≡ (actor_of own.old.pair, merged (clock_entry own.old).1 (counter, [])) }
+    ensures room { IsTrue (has_room own.old) → IsTrue (has_room own.new) }
+{
+    if counter <= own.pair.counter {
+        let kept = (own.pair.counter - counter) as usize;
+        own.values.truncate(kept);
+    } else {
+        own.values.truncate(0);
+        own.pair.counter = counter;
+    }
+}
+
+/// The entry of a pair, without values.
+fn pair_entry<V: MadeWith<Global> + Drop>(alloc: Global, actor: Actor, counter: Counter) -> Entry<V>
+    ensures entry { clock_entry result ≡ (actor, (counter, [])) }
+    ensures room { IsTrue (has_room result) }
+{
+    let values = InlineList::new(alloc);
+    Entry {
+        pair: KnownPair {
+            vnode: actor.vnode,
+            epoch: actor.epoch,
+            counter,
+        },
+        values,
+    }
+}
+
+/// Merges a pair into entries, as `merge_entry` does an entry without values; one is made only where its actor has none.
+#[inline(always)]
+fn merge_pair<V: MadeWith<Global> + Drop>(
+    alloc: Global,
+    entries: &mut InlineList<Entry<V>>,
+    first: usize,
+    actor: Actor,
+    counter: Counter,
+) -> usize
+    requires sorted { T (is_sorted actor_cmp (clock_entries entries.old.items)) }
+    requires counter { 1 ≤ counter }
+    requires within { first ≤ length entries.old.items }
+    requires below { IsTrue (are_below actor (clock_entries (take first entries.old.items))) }
+    requires room { length (merge_entry (actor, (counter, [])) (clock_entries entries.old.items))
+        ≤ entries.old.capacity }
+    ensures within { result ≤ length entries.new.items }
+    ensures below { (next : Actor) → actor_cmp actor next ≡ Less
+        → IsTrue (are_below next (clock_entries (take result entries.new.items))) }
+    ensures merged_in { clock_entries entries.new.items
+        ≡ merge_entry (actor, (counter, [])) (clock_entries entries.old.items) }
+    ensures rooms { IsTrue (list_all has_room entries.old.items)
+        → IsTrue (list_all has_room entries.new.items) }
+    ensures capacity { entries.old.capacity ≤ entries.new.capacity }
+{
+    match search_behind(entries, first, actor) {
+        Place::Taken(at) => match entries.get_mut(at) {
+            Some(own) => {
+                cover(own, counter);
+                at
+            }
+            None => unreachable!(),
+        },
+        Place::Free(at) => {
+            entries.insert(at, pair_entry(alloc, actor, counter));
+            at
+        }
+    }
+}
+
 /// Merges other entries into entries, for all of which there is room.
 pub(crate) fn merge_all<V: MadeWith<Global> + Drop>(
     entries: &mut InlineList<Entry<V>>,
@@ -229,6 +302,7 @@ pub(crate) fn merge_all<V: MadeWith<Global> + Drop>(
 }
 
 /// Merges pairs, as entries without values, into entries, for all of which there is room.
+#[inline(always)]
 pub(crate) fn merge_pairs<V: MadeWith<Global> + Drop>(
     alloc: Global,
     entries: &mut InlineList<Entry<V>>,
@@ -247,19 +321,7 @@ pub(crate) fn merge_pairs<V: MadeWith<Global> + Drop>(
     // Both rise, so that each search goes on where the last one ended.
     let mut first = 0usize;
     for (actor, counter) in pairs {
-        let values = InlineList::new(alloc);
-        first = merge_entry(
-            entries,
-            first,
-            Entry {
-                pair: KnownPair {
-                    vnode: actor.vnode,
-                    epoch: actor.epoch,
-                    counter,
-                },
-                values,
-            },
-        );
+        first = merge_pair(alloc, entries, first, actor, counter);
     }
 }
 
@@ -318,18 +380,33 @@ fn first_entry<V: MadeWith<Global> + Drop>(alloc: Global, actor: Actor, value: V
     }
 }
 
+/// Puts a value before the others, for which there is room. Where there is none it moves none.
+#[inline(always)]
+fn put_first<V: MadeWith<Global> + Drop>(values: &mut InlineList<V>, value: V)
+    requires { length values.old.items < values.old.capacity }
+    ensures { values.new.items ≡ value ∷ values.old.items }
+{
+    if values.is_empty() {
+        values.push_reserved(value);
+        return;
+    }
+    values.insert(0, value);
+}
+
 /// Counts one more, and puts its value before the others, for which there is room.
+#[inline(always)]
 fn add_value<V: MadeWith<Global> + Drop>(entry: &mut Entry<V>, value: V)
     requires counter { entry.old.pair.counter < MAX_COUNTER }
     requires room { IsTrue (has_room entry.old) }
     ensures { clock_entry entry.new
         ≡ (actor_of entry.old.pair, (entry.old.pair.counter + 1, value ∷ entry.old.values.items)) }
 {
-    entry.values.insert(0, value);
+    put_first(&mut entry.values, value);
     entry.pair.counter += 1;
 }
 
 /// Merges what a context saw into entries, for all of which there is room; no context saw nothing.
+#[inline(always)]
 pub(crate) fn merge_context<V: MadeWith<Global> + Drop>(
     alloc: Global,
     entries: &mut InlineList<Entry<V>>,
@@ -369,6 +446,7 @@ pub(crate) fn drop_values<V: MadeWith<Global> + Drop>(entries: &mut InlineList<E
 
 /// Makes room for more entries, and for one value more in each that is there. Refused where there is no memory; no value
 /// changes, and the room that was got may stay.
+#[inline(always)]
 pub(crate) fn reserve_room<V: MadeWith<Global> + Drop>(
     entries: &mut InlineList<Entry<V>>,
     more: usize,
@@ -376,6 +454,7 @@ pub(crate) fn reserve_room<V: MadeWith<Global> + Drop>(
     ensures same { clock_entries entries.new.items ≡ clock_entries entries.old.items }
     ensures room { OnOk result ((length entries.old.items + more ≤ entries.new.capacity)
         × IsTrue (list_all has_room entries.new.items)) }
+    ensures capacity { entries.old.capacity ≤ entries.new.capacity }
 {
     entries.reserve(more)?;
     for at in 0..entries.len() {

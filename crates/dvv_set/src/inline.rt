@@ -85,6 +85,14 @@ impl<T: MadeWith<Global> + Drop> InlineList<T> {
         }
     }
 
+    /// How many items fit into the room that it has.
+    #[inline(always)]
+    pub(crate) fn capacity(&self) -> usize
+        ensures { result ≡ self.now.capacity }
+    {
+        self.content.capacity()
+    }
+
     /// Makes room for more items. Refused where there is no memory, and then nothing changes.
     pub(crate) fn reserve(&mut self, more: usize) -> Result<(), AllocError>
         ensures items { self.new.items ≡ self.old.items }

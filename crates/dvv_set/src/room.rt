@@ -1,6 +1,6 @@
 //! What a change of a clock needs: how many actors are new, and room for them.
 
-ghost use Rattle.std.specs.Prelude.{◌≡◌, ◌≤◌, ◌<◌, ◌+◌, ◌-◌, List, [], IsTrue, length, min, unwrap_or, ◌↔◌, OnOk, IfErr, Some, T};
+ghost use Rattle.std.specs.Prelude.{◌≡◌, ◌≤◌, ◌<◌, ◌+◌, ◌-◌, List, [], IsTrue, length, min, max, unwrap_or, ◌↔◌, OnOk, IfErr, Some, T};
 ghost use Rattle.std.specs.FinMap.Entries.{is_sorted};
 ghost use Rattle.actor_epoch.specs.declared.Actor.{Actor};
 ghost use Rattle.actor_epoch.specs.declared.Dot.{Dot};
@@ -120,6 +120,47 @@ pub(crate) fn required_room<V>(
         return (seen, new + 1);
     }
     (seen, new)
+}
+
+/// For how many entries more room has to be made for the next event of an actor, without what a context saw: for none, where
+/// there is room for one more than the context adds. Only where there isn't, the actor is searched for.
+#[inline(always)]
+pub(crate) fn more_entries<V>(
+    entries: &[Entry<V>],
+    room: usize,
+    context: Option<&Context<'_>>,
+    actor: Actor,
+) -> usize
+    requires entries { AreEntries (clock_entries entries.now) }
+    requires few { length entries.now ≤ 64 }
+    ensures enough { actors_after (known_of (clock_entries entries.now)) (pairs_of context.entry) actor
+        ≤ max room (length entries.now + result) }
+    ensures few { result ≤ 65 }
+    ensures of_form { (ps : List Dot) → pairs_of context.entry ≡ Some ps
+        → IsTrue (is_well_formed ps) }
+{
+    let new = count_new_in(entries, context);
+    if entries.len() + new + 1 <= room {
+        return 0;
+    }
+    let (_, more) = required_room(entries, context, actor);
+    more
+}
+
+/// How many actors a context adds to entries.
+#[inline(always)]
+fn count_new_in<V>(entries: &[Entry<V>], context: Option<&Context<'_>>) -> usize
+    requires { T (is_sorted actor_cmp (clock_entries entries.now)) }
+    ensures new { result ≡ count_new
+        (entries_of_pairs (unwrap_or (pairs_of context.entry) [])) (clock_entries entries.now) }
+    ensures few { result ≤ 64 }
+    ensures of_form { (ps : List Dot) → pairs_of context.entry ≡ Some ps
+        → IsTrue (is_well_formed ps) }
+{
+    match context {
+        None => 0,
+        Some(context) => count_new_pairs(entries, context.pairs()),
+    }
 }
 
 /// How many values entries have that a context doesn't cover. Each of 64 entries may have as many as there are counters.

@@ -42,3 +42,6 @@ returns-clause-room g c =
     let entries = c.loop-at.entries.items in
     let within : length entries ≤ c.loop-at.at = omega (arith, c.loop-at-test.false, c.len-at-end.ensures, c.loop-at.invariant.length) in
     (omega (arith, c.in_ok-reserve.ensures.ok, c.loop-at.invariant.capacity), ap (list_all has_room) (sym (take_all c.loop-at.at entries within)) ∙ c.loop-at.invariant.rooms)
+
+pub returns-clause-capacity : goal.returns-clause-capacity
+returns-clause-capacity g c = omega (arith, c.reserve.ensures.capacity, c.loop-at.invariant.capacity)

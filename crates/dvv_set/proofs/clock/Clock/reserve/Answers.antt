@@ -22,20 +22,25 @@ returns-clause-ready g c =
     let last = ap (λ entries. counter_before (known_of entries) pairs c.args.actor) same in
     let few = ap (λ held. actors_after held.meaning.known pairs c.args.actor) c.self.view_is in
     let counter = ap (λ held. counter_before held.meaning.known pairs c.args.actor) c.self.view_is in
-    let more = rw c.deref.ensures at c.required_room-more.ensures.more in
-    on_ok_weaker c.reserve_room.result (λ room. record {
-      of_form = c.required_room-more.ensures.of_form;
+    let more = rw c.deref.ensures at c.more_entries-more.ensures.enough in
+    let room = c.capacity-room.ensures in
+    let grown = c.reserve_room.ensures.capacity in
+    on_ok_weaker c.reserve_room.result (λ made. record {
+      of_form = c.more_entries-more.ensures.of_form;
       few = omega (arith, long, few, c.requires.few);
       counter = omega (arith, last, counter, c.requires.counter);
-      actors = omega (arith, long, more, room.0);
-      values = each-room c.reserve_room.new.entries.items c.args.actor room.1;
+      actors = omega (arith, long, more, room, grown, made.0);
+      values = each-room c.reserve_room.new.entries.items c.args.actor made.1;
     }) c.reserve_room.ensures.room
 
 pub deref-requires : goal.deref-requires
 deref-requires g c = omega arith
 
-pub required_room-more-requires : goal.required_room-more-requires
-required_room-more-requires g c = (omega arith, rw c.deref.ensures c.self.invariant.entries)
+pub capacity-room-requires : goal.capacity-room-requires
+capacity-room-requires g c = omega arith
+
+pub more_entries-more-requires : goal.more_entries-more-requires
+more_entries-more-requires g c = (omega arith, (rw c.deref.ensures c.self.invariant.entries, rw c.deref.ensures c.self.invariant.few))
 
 pub reserve_room-requires : goal.reserve_room-requires
 reserve_room-requires g c = (omega arith, omega arith)
