@@ -7,7 +7,7 @@ use gate_node::Shared;
 use ring_map::Ring;
 use std::alloc::Global;
 
-/// The gates of a new run. A server for as many clients as come ends no session by its number of reads. Refused where memory is.
+/// The gates of a new run, whose sessions make 4,294,967,296 reads at most. Refused where memory is.
 pub(crate) fn new_shared(alloc: Global, ring: Ring, run: u32, sweep: u32) -> Option<Shared>
     requires { 1 ≤ run }
     ensures { IfSome result (IsNewRun ring run sweep) }

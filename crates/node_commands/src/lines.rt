@@ -3,6 +3,7 @@ ghost use Rattle.std.specs.Prelude.{OnOk};
 ghost use Rattle.std.specs.Io.KnownBytes.{Appends};
 ghost use Rattle.node_commands.specs.Lines.{address_line, commands_text, others_text, totals_line};
 
+use log::{Log, warn};
 use stats_book::Totals;
 use std::io;
 use std::io::Write;
@@ -59,4 +60,13 @@ pub(crate) fn report<W: Write>(totals: Totals, writer: &mut W) -> io::Result<()>
     let written = write_totals(writer, totals);
     writer.flush()?;
     written
+}
+
+/// Logs where some vnode's tally counts other than its history has entries, since then the laws of the register don't speak of this run; writes the
+/// totals, as far as that can be done.
+pub(crate) fn conclude<L: Log, W: Write>(rt: &L, totals: Totals, count_all: bool, writer: &mut W) {
+    if !count_all {
+        warn!(rt; "the commands that were counted aren't all that the partitions' histories have");
+    }
+    let _unheard = report(totals, writer);
 }

@@ -4,7 +4,7 @@ ghost use Rattle.node_commands.specs.Runs.{AreServed, AreConnectionsServed};
 
 use crate::fault::{ServeFault, setup_fault};
 use crate::gates::new_shared;
-use crate::lines::{report, write_address};
+use crate::lines::{conclude, write_address};
 use log::{Log, info, warn};
 use ring_map::Ring;
 use socket_streams::{
@@ -176,7 +176,7 @@ where
     );
     if let Ok(served) = &outcome {
         log_ends(rt, served.ends.as_slice());
-        let _unheard = report(served.totals, writer);
+        conclude(rt, served.totals, served.count_all, writer);
     }
     outcome
 }

@@ -5,7 +5,7 @@ ghost use Rattle.node_commands.specs.Runs.{AreTold, IsServedUntil};
 
 use crate::fault::{ServeFault, setup_fault};
 use crate::gates::new_shared;
-use crate::lines::report;
+use crate::lines::conclude;
 use crate::serving::serve_fault;
 use log::Log;
 use ring_map::Ring;
@@ -213,7 +213,8 @@ where
     let _unheard = announce(&listener, writer);
     let outcome = serve_until_end(rt, alloc, &listener, &shared, *settings, until);
     if let Ok(served) = &outcome {
-        let _unheard = report(served.served.totals, writer);
+        let served = &served.served;
+        conclude(rt, served.totals, served.count_all, writer);
     }
     outcome
 }
