@@ -54,7 +54,7 @@ module _ {I O : Type 0} where
   -- where it gave no more, as many were accepted as were to be, or it might have been stopped
   pub gave_all : (first : ArrivalsView) (jobs : List (Job I O)) (last : ArrivalsView) → GaveAll GivesConnection first jobs last
       → IsSameSource first last × (last.given ≡ first.given + length jobs) × (first.can_stop ≡ false → first.limit ≡ Some (last.given + last.refused))
-          × (first.counts_refused ≡ false → last.refused ≡ 0)
+      × (first.counts_refused ≡ false → last.refused ≡ 0)
   gave_all first jobs last gave =
       let kept = keeps_source first jobs gave.0 gave.1 in
       let end = gave.2 in (
