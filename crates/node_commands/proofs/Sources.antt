@@ -16,7 +16,8 @@ same_twice first next last one two = record {
   can_stop = two.can_stop ∙ one.can_stop;
 }
 
-number_of : Option ℕ → ℕ
+-- the number of a limit that is one
+abbrev number_of : Option ℕ → ℕ
 number_of None = 0
 number_of (Some n) = n
 
@@ -53,7 +54,7 @@ module _ {I O : Type 0} where
   -- where it gave no more, as many were accepted as were to be, or it might have been stopped
   pub gave_all : (first : ArrivalsView) (jobs : List (Job I O)) (last : ArrivalsView) → GaveAll GivesConnection first jobs last
       → IsSameSource first last × (last.given ≡ first.given + length jobs) × (first.can_stop ≡ false → first.limit ≡ Some (last.given + last.refused))
-          × (first.counts_refused ≡ false → last.refused ≡ 0)
+      × (first.counts_refused ≡ false → last.refused ≡ 0)
   gave_all first jobs last gave =
       let kept = keeps_source first jobs gave.0 gave.1 in
       let end = gave.2 in (
@@ -70,7 +71,7 @@ module _ {I O : Type 0} where
       let all = gave_all first jobs last gave in
       let given : last.given ≡ first.given + length jobs = all.1 in
       let closed : last.refused ≡ 0 = all.3 uncounted in
-      let count : n ≡ last.given + last.refused = ap (λ o. number_of o) (sym limit ∙ all.2 unstopped) in
+      let count : n ≡ last.given + last.refused = ap number_of (sym limit ∙ all.2 unstopped) in
       omega arith
 
 -- at most so many, where the limit is another one's

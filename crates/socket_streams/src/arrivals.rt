@@ -160,6 +160,7 @@ impl<'a, X, L: OpenListener<Stream = TcpStream> + AsRawFd> Arrivals<'a, X, L> {
             (λ limit. self.now.given + self.now.refused < limit) }
         ensures reached { result ≡ true →
             self.now.limit ≡ Some (self.now.given + self.now.refused) }
+        ensures uncounted { self.now.counts_refused ≡ false → self.now.refused ≡ 0 }
     {
         match self.limits.connections {
             Some(limit) => self.accepted() == limit,
@@ -172,6 +173,17 @@ impl<'a, X, L: OpenListener<Stream = TcpStream> + AsRawFd> Arrivals<'a, X, L> {
         ensures { self.now.can_stop ≡ false → result ≡ false }
     {
         self.limits.can_stop && self.stop.is_raised()
+    }
+
+    /// Whether no more are accepted.
+    fn has_ended(&self) -> bool
+        ensures below { result ≡ false → IfSome self.now.limit
+            (λ limit. self.now.given + self.now.refused < limit) }
+        ensures all { result ≡ true → self.now.can_stop ≡ false →
+            self.now.limit ≡ Some (self.now.given + self.now.refused) }
+        ensures uncounted { self.now.counts_refused ≡ false → self.now.refused ≡ 0 }
+    {
+        self.is_reached() || self.is_stopped()
     }
 
     /// New passes of the gates: once more where memory was refused and some was given up.
@@ -370,7 +382,7 @@ where
         self.stop.start();
         let rt = self.rt;
         for _ in rt.forever() {
-            if self.is_reached() || self.is_stopped() {
+            if self.has_ended() {
                 return Ok(None);
             }
             match self.accept() {
