@@ -1,3 +1,4 @@
+pub mod Appending
 pub mod Contexts
 pub mod Copying
 pub mod Deleting

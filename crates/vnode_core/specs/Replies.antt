@@ -1,5 +1,5 @@
 -- What a vnode answers, by what is stored of the key.
-use Rattle.std.specs.Prelude.{◌≡◌, Bool, true, false, not, ◌||◌, if◌then◌else◌, List, [], map, is_some, unwrap_or, Option, Some, None, IsTrue}
+use Rattle.std.specs.Prelude.{◌≡◌, Bool, true, false, not, ◌||◌, if◌then◌else◌, ℕ, List, [], map, is_some, unwrap_or, Option, Some, None, IsTrue}
 use Rattle.std.specs.Option.{option_map_or}
 use Rattle.std.specs.Borrow.{Bor}
 use Rattle.std.specs.List.{list_any}
@@ -9,6 +9,7 @@ use Rattle.riak_msgs.specs.declared.GetReply.{GetReply}
 use Rattle.riak_msgs.specs.declared.PutAsk.{PutAsk}
 use Rattle.riak_msgs.specs.declared.PutReply.{PutReply}
 use Rattle.riak_msgs.specs.declared.Shown.{Shown}
+use Rattle.clock_store.specs.declared.stored_clock.StoredClock.{StoredClock}
 use Rattle.actor_epoch.specs.declared.Actor.{Actor}
 use Rattle.actor_epoch.specs.declared.Dot.{Dot}
 use Rattle.actor_epoch.specs.Contexts.{encoding, is_well_formed}
@@ -22,6 +23,10 @@ use Rattle.vnode_machine.specs.Machine.{Stored, same_pairs}
 abbrev pub nothing : GetReply
 nothing = record { contents = []; context = []; unchanged = false }
 
+-- a reply that nothing changed
+abbrev pub unchanged : GetReply
+unchanged = record { contents = []; context = []; unchanged = true }
+
 -- the reply of a put that shows nothing
 abbrev pub nothing_after : PutReply
 nothing_after = record { contents = []; context = [] }
@@ -29,6 +34,14 @@ nothing_after = record { contents = []; context = [] }
 -- a key's siblings as a reply shows them
 abbrev pub all_shown : (is_bare : Bool) → DotState (Option Content) → List Shown
 all_shown is_bare clock = map (λ entry. shown is_bare entry.1) clock.live
+
+-- the siblings of a key, where a reply shows them
+abbrev pub shown_siblings : (is_bare : Bool) → Option (Bor StoredClock) → List Shown
+shown_siblings is_bare key = option_map_or (λ k. all_shown is_bare k.now.clock.meaning) key []
+
+-- the bytes of a key's context, where a reply shows it
+abbrev pub shown_context : Option (Bor StoredClock) → List ℕ
+shown_context key = option_map_or (λ k. encoding k.now.clock.meaning.known) key []
 
 -- the reply of a put, by the clock of its key after it
 abbrev pub reply_after : DotState (Option Content) → PutAsk → PutReply

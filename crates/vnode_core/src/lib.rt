@@ -65,6 +65,7 @@ mod left;
 mod ready;
 mod refusal;
 mod replies;
+mod stored_reply;
 mod vnode;
 
 pub use ask::{Answer, Ask, Plan, Reaped};
@@ -83,4 +84,5 @@ pub use laws::{
 pub use left::{count_left, is_copied};
 pub use refusal::Refusal;
 pub use rw_gate::Kept;
+pub use stored_reply::StoredReply;
 pub use vnode::{Tally, Vnode, VnodeOver};

@@ -56,7 +56,8 @@ fn show_all(alloc: Global, key: &StoredClock, is_bare: bool) -> Result<Sequence<
 }
 
 /// The pair that a clock knows, where it knows one alone, as most do.
-fn only_pair<V: MadeWith<Global> + Drop>(clock: &Clock<V>) -> Option<(Actor, Counter)>
+#[inline(always)]
+pub(crate) fn only_pair<V: MadeWith<Global> + Drop>(clock: &Clock<V>) -> Option<(Actor, Counter)>
     ensures { IfSome result (λ pair. entries_of (pair ∷ []) ≡ clock.now.meaning.known) }
 {
     let mut known = clock.join();
@@ -108,7 +109,8 @@ fn context_of<V: MadeWith<Global> + Drop>(
 }
 
 /// Whether these bytes, as given, are a stored key's context.
-fn is_shown_by(key: &StoredClock, given: &[u8]) -> bool
+#[inline(always)]
+pub(crate) fn is_shown_by(key: &StoredClock, given: &[u8]) -> bool
     ensures { result ≡ is_its (stored_of key.now) (context_of given.now) }
 {
     match Context::read(given) {

@@ -21,6 +21,7 @@ mod copying;
 mod deleting;
 mod keys;
 mod reaping;
+mod showing;
 mod tally;
 
 use crate::ask::{Answer, Ask, Plan};
