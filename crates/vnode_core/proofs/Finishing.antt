@@ -104,6 +104,10 @@ finished v is seen sees ask write prepared ready found epochs writes tombstones 
     let here = finished-here v is.sound ask write r ready found next (state-is v is.sound ask write r ready found epochs writes tombstones keys e n m k) in
     subst (λ (w : View). IsFinished w.state ask ready.answer next) sees here
 
+-- by another name of the answer
+pub answered-as : (state : State Content) (ask : Ask) (answer told : Answer) (after : State Content) → told ≡ answer → IsFinished state ask answer after → IsFinished state ask told after
+answered-as state ask answer told after same f = subst (λ a. IsFinished state ask a after) (sym same) f
+
 accepted-step : (outcome : MachineOutcome) (operation : Operation Content) (response : Response) (next : State Content) → outcome ≡ Accepted operation response next → IsAcceptedStep outcome
 accepted-step outcome operation response next h = subst IsAcceptedStep (sym h) tt
 

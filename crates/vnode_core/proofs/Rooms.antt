@@ -26,11 +26,11 @@ use Rattle.vnode_core.specs.declared.checks.Writer.{Writer}
 use Rattle.vnode_core.specs.Checks.{pairs_in, AreRead, is_ahead, IsStored, IsFound, room_check, next_writer, siblings_check, writer_check}
 
 -- by what was computed
-pub siblings-full : (u count : ℕ) → u ≡ count → max_siblings ≤ u → first_of ((nat_le max_siblings count, too_many_siblings) ∷ []) ≡ Some too_many_siblings
-siblings-full u count is full = let b : nat_le 64 count ≡ true = grind (arith, nat_tests) in rw b refl
+pub siblings-full : (count : ℕ) → nat_le max_siblings count ≡ true → first_of ((nat_le max_siblings count, too_many_siblings) ∷ []) ≡ Some too_many_siblings
+siblings-full count full = rw full refl
 
-pub siblings-free : (u count : ℕ) → u ≡ count → u < max_siblings → first_of ((nat_le max_siblings count, too_many_siblings) ∷ []) ≡ None
-siblings-free u count is few = let b : nat_le 64 count ≡ false = grind (arith, nat_tests) in rw b refl
+pub siblings-free : (count : ℕ) → nat_le max_siblings count ≡ false → first_of ((nat_le max_siblings count, too_many_siblings) ∷ []) ≡ None
+siblings-free count few = rw few refl
 
 abbrev check_of : (a n : ℕ) → (is_out_of_epochs : Bool) → Option ℕ
 check_of a n is_out_of_epochs = first_of ((nat_lt max_actors a, clock_full) ∷ (is_out_of_epochs, epochs_used_up) ∷ (n == max_counter, counter_used_up) ∷ [])

@@ -1,6 +1,7 @@
 pub mod Checks
 pub mod Events
 pub mod KeyCopies
+pub mod LaidAnswers
 pub mod Left
 pub mod Plans
 pub mod Readiness

@@ -1,6 +1,7 @@
 //! The checks of a write, by what is stored of its key, and who makes it. They take no memory.
 
 ghost use Rattle.std.specs.Prelude.{◌≡◌, ◌<◌, true, false, Some, None, IfOk, OnOk};
+ghost use Rattle.actor_epoch.specs.Dots.{counter_in};
 ghost use Rattle.dvv_set.specs.Clocks.{join};
 ghost use Rattle.dvv_set.specs.Held.{pairs_of as seen_in};
 ghost use Rattle.dvv_set.specs.Laws.{IsClock};
@@ -30,6 +31,7 @@ pub(crate) struct Writer {
 }
 
 /// The last dot of a key's life; None where it is in none: absent, or come by copies alone.
+#[inline(always)]
 pub(crate) fn last_of(found: Option<&StoredClock>) -> Option<Dot>
     ensures { result ≡ last_dot (found_in found.entry) }
 {
@@ -94,26 +96,24 @@ pub(crate) fn check_options(
 fn check_siblings(key: &StoredClock, context: Option<&Context<'_>>) -> Result<(), Refusal>
     ensures { GivenBy result (siblings_check key.now.clock.meaning (seen_in context.entry)) }
 {
-    if MAX_SIBLINGS <= key.clock.uncovered(context) {
+    if key.clock.has_uncovered(context, MAX_SIBLINGS) {
         return Err(Refusal::TooManySiblings);
     }
     Ok(())
 }
 
-/// Whether the clock of a stored key has room for one write more at an actor, without what its context has seen.
-fn check_actor(
-    key: &StoredClock,
-    context: Option<&Context<'_>>,
-    actor: Actor,
-) -> Result<(), Refusal>
+/// Whether the clock of a stored key has room for one write more at the actor of a dot, its last there, without what its context has
+/// seen.
+fn check_actor(key: &StoredClock, context: Option<&Context<'_>>, last: Dot) -> Result<(), Refusal>
+    requires { last.counter ≡ counter_in key.now.clock.meaning.known last.actor }
     ensures given { GivenBy result
-        (actor_check key.now.clock.meaning (seen_in context.entry) actor false) }
+        (actor_check key.now.clock.meaning (seen_in context.entry) last.actor false) }
     ensures clock { IsClock key.now.clock.meaning }
 {
-    if key.clock.is_actors_full(context, actor) {
+    if key.clock.is_actors_full(context, last.actor) {
         return Err(Refusal::ClockFull);
     }
-    if key.clock.counter_of(actor) == MAX_COUNTER {
+    if last.counter == MAX_COUNTER {
         return Err(Refusal::CounterUsedUp);
     }
     Ok(())
@@ -156,45 +156,56 @@ fn check_first_writer(
         return Err(refusal_without_epoch(id, key, context));
     }
     let writer = first_writer(id, last_epoch);
-    check_actor(key, context, writer.actor)?;
+    let actor = writer.actor;
+    let counter = key.clock.counter_of(actor);
+    check_actor(key, context, Dot { actor, counter })?;
     Ok(writer)
 }
 
 /// Whether the clock of a stored key has room for one write more, without what its context has seen, and who makes it: the
-/// actor of its life, or the next one's of a key that came by copies alone.
+/// actor of its life, whose last dot was found, or the next one's of a key that came by copies alone.
+#[inline(always)]
 fn check_writer(
     id: u64,
     last_epoch: u32,
     key: &StoredClock,
+    last: Option<Dot>,
     context: Option<&Context<'_>>,
 ) -> Result<Writer, Refusal>
-    requires { IsForm (stored_of key.now) }
+    requires form { IsForm (stored_of key.now) }
+    requires last { last ≡ last_dot (Some (stored_of key.now)) }
     ensures given { GivenBy result
         (writer_check id last_epoch (stored_of key.now) (seen_in context.entry)) }
     ensures writer { IfOk result (λ writer. writer ≡ next_writer id last_epoch key.now.actor) }
     ensures clock { IsClock key.now.clock.meaning }
 {
-    let Some(actor) = key.actor.get() else {
+    let Some(last) = last else {
         return check_first_writer(id, last_epoch, key, context);
     };
-    check_actor(key, context, actor)?;
-    Ok(Writer { actor, last_epoch })
+    check_actor(key, context, last)?;
+    Ok(Writer {
+        actor: last.actor,
+        last_epoch,
+    })
 }
 
 /// Whether a stored key has room for one write more, which discards what its context has seen, and who makes it.
+#[inline(always)]
 fn check_stored(
     id: u64,
     last_epoch: u32,
     key: &StoredClock,
+    last: Option<Dot>,
     context: Option<&Context<'_>>,
 ) -> Result<Writer, Refusal>
-    requires { IsForm (stored_of key.now) }
+    requires form { IsForm (stored_of key.now) }
+    requires last { last ≡ last_dot (Some (stored_of key.now)) }
     ensures given { ChecksStored id last_epoch
         (stored_of key.now) (seen_in context.entry) result }
     ensures writer { GivesWriterOf id last_epoch (stored_of key.now) result }
 {
     check_siblings(key, context)?;
-    check_writer(id, last_epoch, key, context)
+    check_writer(id, last_epoch, key, last, context)
 }
 
 /// Whether there is room for the first write of a life at a vnode that gave this epoch last, by a context that doesn't
@@ -214,19 +225,22 @@ fn check_new(id: u64, last_epoch: u32, context: Option<&Context<'_>>) -> Result<
 
 /// Whether a key has room for one write more, which discards what its context has seen, and who makes it: where it was
 /// not found, or has no actor, the next life's.
+#[inline(always)]
 pub(crate) fn check_room(
     id: u64,
     last_epoch: u32,
     found: Option<&StoredClock>,
+    last: Option<Dot>,
     context: Option<&Context<'_>>,
 ) -> Result<Writer, Refusal>
-    requires { IsFormed (found_in found) }
+    requires form { IsFormed (found_in found) }
+    requires last { last ≡ last_dot (found_in found) }
     ensures given { ChecksRoom id last_epoch (found_in found.entry) (seen_in context.entry) result }
     ensures writer { GivesWriter id last_epoch
         (found_in found.entry) (seen_in context.entry) result }
 {
     match found {
-        Some(key) => check_stored(id, last_epoch, key, context),
+        Some(key) => check_stored(id, last_epoch, key, last, context),
         None => {
             check_new(id, last_epoch, context)?;
             Ok(first_writer(id, last_epoch))
@@ -257,5 +271,5 @@ pub(crate) fn check_overwrite(
         (stored_of key.now) (Some (join key.now.clock.meaning)) result }
     ensures writer { GivesWriterOf id last_epoch (stored_of key.now) result }
 {
-    check_writer(id, last_epoch, key, None)
+    check_writer(id, last_epoch, key, last_of(Some(key)), None)
 }

@@ -60,6 +60,7 @@ mod entry;
 mod event;
 mod kept;
 mod key_copy;
+mod laid_answer;
 mod laws;
 mod left;
 mod ready;

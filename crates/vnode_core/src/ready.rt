@@ -8,13 +8,14 @@ ghost use Rattle.vnode_core.specs.Readiness.{plan_in};
 use crate::ask::{Answer, Ask, Plan, Reaped};
 use crate::change::Change;
 use crate::checks::Writer;
+use crate::laid_answer::LaidAnswer;
 use crate::refusal::Refusal;
 
 /// Who makes the write that is prepared, and its answer.
 #[derive(Drop)]
 pub(crate) struct Ready {
     pub(crate) writer: Writer,
-    pub(crate) answer: Answer,
+    pub(crate) answer: LaidAnswer,
 }
 
 /// The outcome of a command that isn't refused.

@@ -15,6 +15,8 @@ ghost use Rattle.vnode_machine.specs.Sound.{IsSound};
 ghost use Rattle.vnode_core.specs.Plans.{IsPrepared, Plans, Refuses, RefusesOpen, Registers, RegistersPlan, RegistersStep, Steps, AcceptsPrepared, IsWrite};
 ghost use Rattle.vnode_core.specs.Readiness.{plan_in};
 ghost use Rattle.vnode_core.specs.Refusals.{GivenBy};
+ghost use Rattle.vnode_core.specs.declared.ask.Answer.TheVariants as answers;
+ghost use Rattle.vnode_core.specs.Replies.{FitsPut, clock_after, reply_after};
 ghost use Rattle.vnode_core.specs.Vnodes.{written_by, IsOfForm, HasRoomFor, AcceptsPut};
 
 mod copying;
@@ -28,6 +30,7 @@ use crate::ask::{Answer, Ask, Plan};
 use crate::change::Change;
 use crate::checks::{Writer, check_options, check_room, last_of};
 use crate::context::{self, names_unissued_dot};
+use crate::laid_answer::LaidAnswer;
 use crate::ready::{Readiness, Ready, plan_of, refuse, set_ready, tombstones_after, writes_after};
 use crate::refusal::Refusal;
 use crate::replies::{absent_reply, put_reply, siblings_reply};
@@ -35,7 +38,7 @@ use actor_epoch::{Actor, Context, EpochSource};
 use clock_store::{ClockMap, ClockStore, StoredClock, WriteKind, place_in, stored_in};
 use ghost_state::GhostValue;
 use riak_msgs::{DelAsk, GetAsk, GetReply, PutAsk};
-use std::alloc::Global;
+use std::alloc::{AllocError, Global};
 use std::marker::Model;
 pub use tally::Tally;
 
@@ -158,6 +161,29 @@ fn write_tombstone<S: ClockStore>(store: &mut S, del: DelAsk, actor: Actor)
     }
 }
 
+/// Lays the answer to an accepted put ready, by what was found of its key. Refused where memory is.
+#[inline(always)]
+fn lay_answer(
+    alloc: Global,
+    found: Option<&StoredClock>,
+    put: &PutAsk,
+    context: Option<&Context<'_>>,
+    actor: Actor,
+) -> Result<LaidAnswer, AllocError>
+    requires { FitsPut (found_in found) (seen_in context) actor }
+    ensures { IfOk result (λ laid. laid ≡ answers.Put (reply_after
+        (clock_after (found_in found.entry) (seen_in context.entry) actor put.now.content)
+        put.now)) }
+{
+    if !put.return_body && !put.return_head {
+        return Ok(LaidAnswer::of_put(alloc));
+    }
+    match put_reply(alloc, found, put, context, actor) {
+        Ok(reply) => LaidAnswer::of_reply(alloc, reply),
+        Err(error) => Err(error),
+    }
+}
+
 impl<S: ClockStore> VnodeOver<S> {
     /// A vnode that holds no key, and whose first life gets the epoch `first_epoch`. It takes no memory.
     pub fn new(alloc: Global, id: u64, first_epoch: u32) -> VnodeOver<S>
@@ -201,11 +227,12 @@ impl<S: ClockStore> VnodeOver<S> {
         ensures writer { IfOk result (λ writer. writer ≡ writer_of self.now.state put.now.key) }
     {
         let last_epoch = self.epochs.last();
-        if names_unissued_dot(context, self.id, last_epoch, last_of(found)) {
+        let last = last_of(found);
+        if names_unissued_dot(context, self.id, last_epoch, last) {
             return Err(Refusal::BadContext);
         }
         check_options(put, found, context)?;
-        check_room(self.id, last_epoch, found, context)
+        check_room(self.id, last_epoch, found, last, context)
     }
 
     /// Gives up what was prepared.
@@ -255,8 +282,7 @@ impl<S: ClockStore> VnodeOver<S> {
         ensures err { IfErr result (λ refusal. RefusesOpen self.now.state (Put put.now) refusal) }
     {
         let writer = self.check_put(put, found, context)?;
-        let reply = put_reply(alloc, found, put, context, writer.actor)?;
-        let answer = Answer::Put(reply);
+        let answer = lay_answer(alloc, found, put, context, writer.actor)?;
         Ok(Ready { writer, answer })
     }
 
@@ -313,6 +339,7 @@ impl<S: ClockStore> VnodeOver<S> {
     /// `NoMemory`, where none of these holds and a growth was refused. Each leaves the state as it was. The options are
     /// a put's alone. Without a context a put covers nothing, and a delete all that is stored: `BadContext` and
     /// `TooManySiblings` never refuse such a delete.
+    #[inline(always)]
     pub fn prepare(&mut self, alloc: Global, ask: Ask) -> Result<Plan<Change, Answer>, Refusal>
         ensures same { self.new.state ≡ self.old.state }
         ensures ok { IfOk result (λ plan. Plans self.new ask plan) }
@@ -325,12 +352,14 @@ impl<S: ClockStore> VnodeOver<S> {
             return Ok(plan_of(ask, Readiness::Closed));
         }
         match self.make_ready(alloc, &ask) {
+            Ok(Readiness::Ready) => Ok(Plan::Change(Change { ask })),
             Ok(readiness) => Ok(plan_of(ask, readiness)),
             Err(refusal) => Err(refuse(ask, refusal)),
         }
     }
 
     /// Makes the change that this vnode prepared last, and answers it. It takes no memory and is never refused.
+    #[inline(always)]
     pub fn finish(&mut self, change: Change) -> Answer
         requires { self.old.prepared ≡ Some change }
         ensures step { Steps self.old.state change result self.new.state }
@@ -362,6 +391,6 @@ impl<S: ClockStore> VnodeOver<S> {
         self.writes = writes_after(self.writes, &ask);
         self.tombstones = tombstones_after(self.tombstones, &ask);
         write(&mut self.store, ask, writer.actor);
-        answer
+        answer.into_answer()
     }
 }

@@ -15,6 +15,7 @@ ghost use Rattle.vnode_core.specs.Vnodes.{del_check_by, DelOfAllGives, PlansDel}
 use crate::ask::{Answer, Ask};
 use crate::checks::{Writer, check_overwrite, check_room, last_of};
 use crate::context::names_unissued_dot;
+use crate::laid_answer::LaidAnswer;
 use crate::ready::{Readiness, Ready, set_ready};
 use crate::refusal::Refusal;
 use crate::vnode::VnodeOver;
@@ -38,10 +39,11 @@ impl<S: ClockStore> VnodeOver<S> {
     {
         let _key = key;
         let last_epoch = self.epochs.last();
-        if names_unissued_dot(Some(context), self.id, last_epoch, last_of(found)) {
+        let last = last_of(found);
+        if names_unissued_dot(Some(context), self.id, last_epoch, last) {
             return Err(Refusal::BadContext);
         }
-        check_room(self.id, last_epoch, found, Some(context))
+        check_room(self.id, last_epoch, found, last, Some(context))
     }
 
     /// Checks a delete without context, by what was found of its key; returns who writes its tombstone: nobody, where the
@@ -106,7 +108,7 @@ impl<S: ClockStore> VnodeOver<S> {
         let kind = WriteKind::Tombstone;
         self.store
             .reserve(alloc, &del.key, place, seen, actor, kind)?;
-        let answer = Answer::Del;
+        let answer = LaidAnswer::of_del(alloc);
         set_ready(&mut self.ready, Ready { writer, answer });
         self.prepared = GhostValue::some(ask);
         Ok(Readiness::Ready)

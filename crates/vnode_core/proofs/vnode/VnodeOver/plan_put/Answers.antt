@@ -12,8 +12,8 @@ use Rattle.vnode_core.specs.declared.checks.Writer.{Writer}
 use Rattle.vnode_core.proofs.Putting.{within-put, form-after, reply-put}
 use Rattle.vnode_core.proofs.vnode.VnodeOver.plan_put.Goals as goal
 
-pub put_reply-requires : goal.put_reply-requires
-put_reply-requires g c =
+pub lay_answer-requires : goal.lay_answer-requires
+lay_answer-requires g c =
     let put = c.args.put.now in
     let state : State Content = c.args.self.now.state in
     let seen = seen_in c.args.context in
@@ -38,7 +38,6 @@ returns-clause-ok g c =
     let is = c.in_ok-writer.ensures.sound in
     let found = c.requires.found in
     let own = ap (λ (w : Writer). w.actor) c.in_ok-writer.ensures.writer in
-    let reply = c.in_ok-reply.ensures
-    ∙ (λ i. reply_after (event (own i) (Some put.content) (without seen (clock_found (found i)))) put)
+    let reply = (λ i. reply_after (event (own i) (Some put.content) (without seen (clock_found (found i)))) put)
     ∙ reply-put state is put c.in_ok-writer.ensures.given seen c.requires.given in
-    record { free = c.in_ok-writer.ensures.given; writer = c.in_ok-writer.ensures.writer; answer = ap answers.Put reply }
+    record { free = c.in_ok-writer.ensures.given; writer = c.in_ok-writer.ensures.writer; answer = c.in_ok-answer.ensures ∙ ap answers.Put reply }

@@ -14,3 +14,7 @@ returns-in-Err-clause-register g c =
 pub returns-then-is_some-clause-register : goal.returns-then-is_some-clause-register
 returns-then-is_some-clause-register g c =
     registers-plan c.args.self.now.state c.drop_prepared.ensures.sound _ c.args.ask _
+
+pub returns-in-Ok-Ready-clause-register : goal.returns-in-Ok-Ready-clause-register
+returns-in-Ok-Ready-clause-register g c =
+    registers-plan c.args.self.now.state c.drop_prepared.ensures.sound _ c.args.ask _
