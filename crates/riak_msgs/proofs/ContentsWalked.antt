@@ -191,8 +191,8 @@ Sees-value seen number bytes e =
         deleted = refl;
         misses_key = sym (or-false seen.misses_key);
         no_links = λ e. (e, refl);
-      no_usermeta = λ e. (e, refl);
-      no_indexes = λ e. (e, refl);
+        no_usermeta = λ e. (e, refl);
+        no_indexes = λ e. (e, refl);
       }),
     )
 
@@ -212,8 +212,8 @@ Sees-content_type seen number bytes e =
         deleted = refl;
         misses_key = sym (or-false seen.misses_key);
         no_links = λ e. (e, refl);
-      no_usermeta = λ e. (e, refl);
-      no_indexes = λ e. (e, refl);
+        no_usermeta = λ e. (e, refl);
+        no_indexes = λ e. (e, refl);
       }),
     )
 
@@ -233,8 +233,8 @@ Sees-charset seen number bytes e =
         deleted = refl;
         misses_key = sym (or-false seen.misses_key);
         no_links = λ e. (e, refl);
-      no_usermeta = λ e. (e, refl);
-      no_indexes = λ e. (e, refl);
+        no_usermeta = λ e. (e, refl);
+        no_indexes = λ e. (e, refl);
       }),
     )
 
@@ -254,8 +254,8 @@ Sees-content_encoding seen number bytes e =
         deleted = refl;
         misses_key = sym (or-false seen.misses_key);
         no_links = λ e. (e, refl);
-      no_usermeta = λ e. (e, refl);
-      no_indexes = λ e. (e, refl);
+        no_usermeta = λ e. (e, refl);
+        no_indexes = λ e. (e, refl);
       }),
     )
 
@@ -275,8 +275,8 @@ Sees-deleted seen field value flag e is =
         deleted = is;
         misses_key = sym (or-false seen.misses_key);
         no_links = λ e. (e, refl);
-      no_usermeta = λ e. (e, refl);
-      no_indexes = λ e. (e, refl);
+        no_usermeta = λ e. (e, refl);
+        no_indexes = λ e. (e, refl);
       }),
     )
 

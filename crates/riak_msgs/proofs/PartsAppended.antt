@@ -244,7 +244,7 @@ content_message-parts c a b d e scalars links usermeta indexes =
     ∙ ap (λ bs. bs ++ parts_message kinds.Index c.indexes) usermeta
     ∙ ap (λ bs. bs ++ parts_message kinds.Usermeta c.usermeta ++ parts_message kinds.Index c.indexes) links
     ∙ ap (λ bs. bs ++ parts_message kinds.Link c.links ++ parts_message kinds.Usermeta c.usermeta ++ parts_message kinds.Index c.indexes)
-      (scalars ∙ content_message-scalars c)
+    (scalars ∙ content_message-scalars c)
     ∙ rw (links_message c.links, usermeta_message c.usermeta, indexes_message c.indexes) refl
 
 -- what a walk has seen of the scalars

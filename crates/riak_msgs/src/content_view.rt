@@ -15,7 +15,9 @@ use crate::encode::encode_optional;
 use crate::fault::MsgFault;
 use crate::pairs_and_links::{PairView, push_link, push_pair};
 use crate::sequence::Sequence;
-use pb_fields::{Field, FieldFault, LengthCounter, Merge, Message, Output, Value, encode_message, scan};
+use pb_fields::{
+    Field, FieldFault, LengthCounter, Merge, Message, Output, Value, encode_message, scan,
+};
 use std::alloc::{AllocError, Global};
 
 /// The last of each scalar of a content, borrowed from the message, over all its occurrences so far.
@@ -137,7 +139,9 @@ impl<'a> ContentView<'a> {
         ensures { (c : ContentFields) → IsSeenOf self.now c
             → IfOk result (λ out. out.items ≡ content_message (scalars_of c)) }
     {
-        let mut len = LengthCounter { len: self.parts_len };
+        let mut len = LengthCounter {
+            len: self.parts_len,
+        };
         self.encode_scalars(&mut len)?;
         let mut out = Vec::with_capacity(alloc, len.len)?;
         self.encode_scalars(&mut out)?;

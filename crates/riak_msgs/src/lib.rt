@@ -19,8 +19,8 @@
 //! [`Reply::body_len`] and [`Reply::append_body`] give it in parts, for a frame that is made in one buffer.
 //!
 //! Reading is one scan over the fields as they lie ([`pb_fields::scan`]), in which each message has its step for one field,
-//! and then a copy of each kept field. A content's links and pairs are scanned once more only where the first scan met
-//! some. Writing counts the bytes first, takes one buffer of that size, and writes them once. A content is encoded when it is made,
+//! and then a copy of each kept field. A put's links and pairs are scanned once more for each of their numbers of which the first scan
+//! met some, and are encoded one after another, without a list of them. Writing counts the bytes first, takes one buffer of that size, and writes them once. A content is encoded when it is made,
 //! whatever the encoding that it came in, and kept so: a reply appends its bytes, and counts them by their length. A link or pair is
 //! counted once for its own length and once for that of the content. Reading and writing take time linear in the bytes. What is
 //! called for each field is marked `inline(always)`, a hint to LLVM, since its results are wide.

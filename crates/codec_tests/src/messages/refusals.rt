@@ -62,6 +62,18 @@ const REFUSED: &[Read] = &[
         asked: Refused(MsgFault::BadMessage),
     },
     Read {
+        shows: "a link that is cut short behind a good one, and behind a pair without a key",
+        code: 11,
+        body: b"\x0a\x01b\x12\x01k\x22\x0f\x0a\x01v\x4a\x02\x12\0\x32\x03\x12\x01j\x32\x01\x0a",
+        asked: Refused(MsgFault::BadMessage),
+    },
+    Read {
+        shows: "a pair that is cut short in the second occurrence of a content",
+        code: 11,
+        body: b"\x0a\x01b\x12\x01k\x22\x08\x0a\x01v\x4a\x03\x0a\x01m\x22\x04\x4a\x02\x12\x01",
+        asked: Refused(MsgFault::BadMessage),
+    },
+    Read {
         shows: "a get of no bytes",
         code: 9,
         body: b"",
@@ -113,6 +125,12 @@ const REFUSED: &[Read] = &[
         shows: "a pair without a key",
         code: 11,
         body: b"\x0a\x01b\x12\x01k\x22\x08\x0a\x01v\x4a\x03\x12\x01x",
+        asked: Refused(MsgFault::MissingField),
+    },
+    Read {
+        shows: "a pair without a key in the second occurrence of a content",
+        code: 11,
+        body: b"\x0a\x01b\x12\x01k\x22\x08\x0a\x01v\x4a\x03\x0a\x01m\x22\x04\x4a\x02\x12\0",
         asked: Refused(MsgFault::MissingField),
     },
     Read {

@@ -33,6 +33,38 @@ const PUT_WITH_QUORUM: &[u8] =
 const PUT_TWICE: &[u8] =
     b"\x0a\x01b\x12\x01k\x22\x0a\x0a\x01v\x4a\x05\x0a\x01m\x12\0\x22\x0d\x0a\x01w\x4a\x03\x0a\x01n\x32\x03\x12\x01j";
 
+/// A content whose two occurrences have links, pairs of metadata and of indexes in no order of their numbers.
+const PUT_OF_MIXED_PARTS: &[u8] =
+    b"\x0a\x01b\x12\x01k\x22\x0d\x0a\x01v\x4a\x03\x0a\x01m\x32\x03\x12\x01j\x22\x11\x52\x05\x0a\x01i\x12\0\x32\x03\x0a\x01c\x4a\x03\x0a\x01n";
+
+/// The links and pairs of both, each kind in its order.
+const MIXED_PARTS: ContentRow = ContentRow {
+    links: &[(None, Some(b"j"), None), (Some(b"c"), None, None)],
+    usermeta: &[(b"m", None), (b"n", None)],
+    indexes: &[(b"i", Some(b""))],
+    ..V
+};
+
+/// The value v with a link to the key j.
+const LINKED: ContentRow = ContentRow {
+    links: &[(None, Some(b"j"), None)],
+    ..V
+};
+
+/// The value v with the pair y, 2.
+const PAIRED: ContentRow = ContentRow {
+    usermeta: &[(b"y", Some(b"2"))],
+    ..V
+};
+
+/// The value v with a link of no fields, and pairs whose keys have no bytes.
+const EMPTY_PARTS: ContentRow = ContentRow {
+    links: &[(None, None, None), (None, None, None)],
+    usermeta: &[(b"", None)],
+    indexes: &[(b"", None)],
+    ..V
+};
+
 /// Pings, gets and their options, puts and theirs, and deletes.
 const REQUESTS: &[Read] = &[
     Read {
@@ -184,6 +216,36 @@ const REQUESTS: &[Read] = &[
         code: 11,
         body: PUT_TWICE,
         asked: Put(DEFAULT, b"", MERGED, &[]),
+    },
+    Read {
+        shows: "links and pairs of two occurrences of a content are kept in order, whatever stands between them",
+        code: 11,
+        body: PUT_OF_MIXED_PARTS,
+        asked: Put(DEFAULT, b"", MIXED_PARTS, &[]),
+    },
+    Read {
+        shows: "of a pair's keys and values the last counts",
+        code: 11,
+        body: b"\x0a\x01b\x12\x01k\x22\x11\x0a\x01v\x4a\x0c\x0a\x01x\x12\x011\x0a\x01y\x12\x012",
+        asked: Put(DEFAULT, b"", PAIRED, &[]),
+    },
+    Read {
+        shows: "unknown fields of a link, and a number under its bucket's, are skipped",
+        code: 11,
+        body: b"\x0a\x01b\x12\x01k\x22\x0f\x0a\x01v\x32\x0a\x20\x05\x12\x01j\x22\x01z\x08\x01",
+        asked: Put(DEFAULT, b"", LINKED, &[]),
+    },
+    Read {
+        shows: "a link whose key and lengths have more bytes than they need",
+        code: 11,
+        body: b"\x0a\x01b\x12\x01k\x22\x8b\0\x0a\x01v\xb2\0\x84\0\x12\x81\0j",
+        asked: Put(DEFAULT, b"", LINKED, &[]),
+    },
+    Read {
+        shows: "links of no fields, and pairs whose keys have no bytes",
+        code: 11,
+        body: b"\x0a\x01b\x12\x01k\x22\x0f\x32\0\x0a\x01v\x52\x02\x0a\0\x4a\x02\x0a\0\x32\0",
+        asked: Put(DEFAULT, b"", EMPTY_PARTS, &[]),
     },
     Read {
         shows: "a put without options",

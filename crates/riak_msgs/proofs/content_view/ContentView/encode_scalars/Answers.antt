@@ -1,4 +1,4 @@
-use Rattle.std.proofs.Common.{ℕ, List, [], ap, subst, ◌∙◌}
+use Rattle.std.proofs.Common.{ℕ, List, ap, subst, ◌∙◌}
 use Rattle.std.proofs.lemmas.Result.{on_ok_weaker}
 use Rattle.riak_msgs.proofs.PartsAppended.{scalars_seen}
 use Rattle.riak_msgs.proofs.Requests.{unwrap_or-copied}

@@ -1,7 +1,7 @@
 use Rattle.std.proofs.Common.{List, ℕ, [], Option, refl, sym, subst}
 use Rattle.std.specs.List.{cons_option}
 use Rattle.std.proofs.lemmas.Result.{IfErr-weaker, on_ok_weaker}
-use Rattle.riak_msgs.specs.Embedded.{ContentFields, StandForContent}
+use Rattle.riak_msgs.specs.Embedded.{StandForContent}
 use Rattle.riak_msgs.proofs.PartsAppended.{OnOk-both, nothing_appended}
 use Rattle.riak_msgs.proofs.Walks.{IfErr-each, OnOk-each}
 use Rattle.riak_msgs.proofs.read_put.PutPartsMerge.merge_field.Goals as goal
