@@ -32,12 +32,12 @@ module _ {S : Type 0} (Step : S → Request → Reply → S → Type 0) where
   refused old new code body faults.NoKey reply is same reads = record { said = Err faults.NoKey; says = reads; answers = (is, same) }
   refused old new code body faults.NoMemory reply is same reads = record { said = Ok reads.0; says = reads.1; answers = inr (is, same) }
 
-  pub told_at : (node node' : S) (framer framer' : Stream) (es es' : List Exchange) (r : Result (Option Reply) FrameFault) (o : Option Reply) (reply : Reply) → r ≡ Ok o → o ≡ Some reply
-      → TakesNext Step node node' framer framer' es es' r → IsToldNext Step node node' framer framer' es es' reply
-  told_at node node' framer framer' es es' r o reply e d t =
-      subst (λ (x : Option Reply). TakesNext Step node node' framer framer' es es' (Ok x)) d (subst (λ (x : Result (Option Reply) FrameFault). TakesNext Step node node' framer framer' es es' x) e t)
+  pub told_at : (node node' : S) (framer framer' : Stream) (es es' : List Exchange) (unsent : List ℕ) (r : Result (Option (Result (Unit {0}) FrameFault)) FrameFault) (o : Option (Result (Unit {0}) FrameFault)) (put : Result (Unit {0}) FrameFault) → r ≡ Ok o → o ≡ Some put
+      → TakesNext Step node node' framer framer' es es' unsent r → IsToldNext Step node node' framer framer' es es' unsent put
+  told_at node node' framer framer' es es' unsent r o put e d t =
+      subst (λ (x : Option (Result (Unit {0}) FrameFault)). TakesNext Step node node' framer framer' es es' unsent (Ok x)) d (subst (λ (x : Result (Option (Result (Unit {0}) FrameFault)) FrameFault). TakesNext Step node node' framer framer' es es' unsent x) e t)
 
-  module _ (node node' : S) (framer framer' : Stream) (es es' : List Exchange) (reply : Reply) (input : List ℕ) (limit : framer.limit ≡ max_request_len) (told : IsToldNext Step node node' framer framer' es es' reply) where
+  module _ (node node' : S) (framer framer' : Stream) (es es' : List Exchange) (unsent : List ℕ) (put : Result (Unit {0}) FrameFault) (input : List ℕ) (limit : framer.limit ≡ max_request_len) (told : IsToldNext Step node node' framer framer' es es' unsent put) where
     abbrev within : FitsLimit max_request_len (message_of told.exchange)
     within = subst (λ (n : ℕ). FitsLimit n (message_of told.exchange)) limit told.taken.within
 

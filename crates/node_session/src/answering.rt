@@ -1,19 +1,26 @@
 //! The answer to the next message.
 
-ghost use Rattle.std.specs.Prelude.{◌≡◌, None};
+ghost use Rattle.std.specs.Prelude.{◌≡◌, [], None};
 ghost use Rattle.riak_msgs.specs.Reading.{Reads};
 ghost use Rattle.riak_msgs.specs.declared.reply.Reply.TheVariants.{Error};
 ghost use Rattle.riak_msgs.specs.declared.text.Text.TheVariants.{NoMemory};
 ghost use Rattle.node_session.specs.Answers.{Answers};
 ghost use Rattle.node_session.specs.Taking.{TakesNext};
+ghost use Rattle.node_session.specs.Unsent.{PutsReply};
 
 use crate::exchange::Exchange;
+use crate::framed_reply::{FramedReply, GhostReply, put_error};
 use crate::node::Node;
 use crate::reply::message_fault_text;
+use crate::reply_frame::ReplyFrame;
+use crate::scratch::Scratch;
 use ghost_state::{GhostList, Listing};
 use pb_frame::{Frame, FrameFault, Framer};
-use riak_msgs::{MsgFault, Reply, Request, Text, read_request};
+use riak_msgs::{MsgFault, Request, Text, read_request};
 use std::alloc::Global;
+
+/// The code of a ping, which is one whatever its body.
+const PING_CODE: u8 = 1;
 
 /// The request of a message, or its first fault: read once more where memory was refused and the node made room.
 #[inline(always)]
@@ -32,58 +39,76 @@ fn decode<N: Node>(alloc: Global, code: u8, body: &[u8], node: &N) -> Result<Req
 }
 
 /// Refuses a request for which there is no memory, and lets it go.
-fn refuse(_request: Request) -> Reply
-    ensures { result ≡ Error NoMemory }
+fn refuse(_request: Request, out: &mut ReplyFrame) -> FramedReply
+    ensures reply { result.reply ≡ Error NoMemory }
+    ensures put { PutsReply (Error NoMemory) out.new result.put }
 {
-    Reply::Error(Text::NoMemory)
+    put_error(Text::NoMemory, out)
 }
 
-/// The reply to a message.
+/// Answers a message, and puts the frame of the reply.
 #[inline(always)]
-fn answer<N: Node>(alloc: Global, code: u8, body: &[u8], node: &mut N) -> Reply
-    ensures { Answers N.step node.old (record { code = code; body = body.now }) result node.new }
+fn answer<N: Node>(
+    alloc: Global,
+    code: u8,
+    body: &[u8],
+    node: &mut N,
+    out: &mut ReplyFrame,
+    scratch: &mut Scratch,
+) -> FramedReply
+    requires { out.old ≡ [] }
+    ensures answers { Answers N.step node.old (record { code = code; body = body.now })
+        result.reply node.new }
+    ensures put { PutsReply result.reply out.new result.put }
 {
+    if code == PING_CODE {
+        return node.answer_into(alloc, Request::Ping, out, scratch);
+    }
     match decode(alloc, code, body, &*node) {
         Ok(request) => {
             if !node.admits(alloc, &request) {
-                return refuse(request);
+                return refuse(request, out);
             }
-            node.answer(alloc, request)
+            node.answer_into(alloc, request, out, scratch)
         }
-        Err(fault) => Reply::Error(message_fault_text(fault)),
+        Err(fault) => put_error(message_fault_text(fault), out),
     }
 }
 
 /// A list with a message and its reply behind it.
 struct Told;
 
-impl<'a, 'b> Listing<(&'a GhostList<Exchange>, Frame<'b>, &'a Reply), Exchange> for Told {
+impl<'a, 'b> Listing<(&'a GhostList<Exchange>, Frame<'b>, &'a GhostReply), Exchange> for Told {
     ghost use Rattle.std.specs.Prelude.{[], ◌∷◌, ◌++◌};
 
     ghost list = { λ it. it.0.now
         ++ record { code = it.1.code; body = it.1.body.now; reply = it.2.now } ∷ [] };
 }
 
-/// Takes the next whole message, and answers it.
+/// Takes the next whole message, answers it, and puts the frame of the reply where nothing else is to be sent; whether that has one.
+#[inline(always)]
 pub(crate) fn answer_next<N: Node>(
     alloc: Global,
     framer: &mut Framer,
     exchanges: &mut GhostList<Exchange>,
     node: &mut N,
-) -> Result<Option<Reply>, FrameFault>
+    out: &mut ReplyFrame,
+    scratch: &mut Scratch,
+) -> Result<Option<Result<(), FrameFault>>, FrameFault>
     requires no_fault { framer.old.fault ≡ None }
+    requires sent { out.old ≡ [] }
     ensures { TakesNext N.step node.old node.new
-        framer.old framer.new exchanges.old exchanges.new result }
+        framer.old framer.new exchanges.old exchanges.new out.new result }
 {
     match framer.take() {
         Ok(Some(frame)) => {
-            let reply = answer(alloc, frame.code, frame.body, node);
-            let told = (&*exchanges, frame, &reply);
-            let longer = GhostList::listed::<(&GhostList<Exchange>, Frame<'_>, &Reply), Told>(
+            let framed = answer(alloc, frame.code, frame.body, node, out, scratch);
+            let told = (&*exchanges, frame, &framed.reply);
+            let longer = GhostList::listed::<(&GhostList<Exchange>, Frame<'_>, &GhostReply), Told>(
                 &told,
             );
             *exchanges = longer;
-            Ok(Some(reply))
+            Ok(Some(framed.put))
         }
         Ok(None) => Ok(None),
         Err(fault) => Err(fault),

@@ -31,16 +31,17 @@
 #![tactic(auto)]
 
 mod answering;
+mod constant_frames;
 mod course;
 mod ended;
-mod error_frame;
 mod exchange;
 mod fault;
+mod framed_reply;
 mod laws;
 mod node;
-mod outbox;
 mod plain_node;
 mod reply;
+mod reply_frame;
 mod report;
 mod scratch;
 mod serving;
@@ -53,9 +54,11 @@ pub use course::Course;
 pub use ended::Ended;
 pub use exchange::Exchange;
 pub use fault::SessionFault;
+pub use framed_reply::{FramedReply, GhostReply, put_error, put_reply, put_stored};
 pub use laws::{plain_node_is_register, read_limit};
 pub use node::Node;
 pub use plain_node::{NodeFault, PlainNode};
+pub use reply_frame::ReplyFrame;
 pub use report::{exit_status, write_fault};
 pub use scratch::Scratch;
 pub use serving::{MAX_READ_LEN, serve};

@@ -1,12 +1,16 @@
 //! A node of vnodes on a ring, for one thread.
 
-ghost use Rattle.std.specs.Prelude.{◌≡◌, ◌≤◌, IfOk};
+ghost use Rattle.std.specs.Prelude.{◌≡◌, ◌≤◌, [], IfOk};
 ghost use Rattle.sibling_register.specs.Answers.{AskGet, AskPut, AskDel};
 ghost use Rattle.vnode_machine.specs.Asks.{get_command, put_command, del_command};
 ghost use Rattle.node_session.specs.PlainNodes.{states_of, AnswersByKey, AreNew, AreOpen, IsNewNode};
+ghost use Rattle.node_session.specs.Unsent.{PutsReply};
 
+use crate::framed_reply::{FramedReply, put_whole};
 use crate::node::Node;
-use crate::vnode_reply::{change_and_sweep, get_and_sweep};
+use crate::reply_frame::ReplyFrame;
+use crate::scratch::Scratch;
+use crate::vnode_reply::{change_and_sweep, get_and_sweep, show_and_sweep};
 use riak_msgs::{DelAsk, GetAsk, PutAsk, Reply, Request};
 use ring_map::{Ring, vnode_id};
 use std::alloc::{AllocError, Global};
@@ -126,6 +130,18 @@ impl PlainNode {
         get_and_sweep(&mut self.vnodes[index], alloc, ask, self.budget)
     }
 
+    /// Answers a get, and puts the frame of the reply.
+    #[inline(always)]
+    fn get_into(&mut self, ask: &GetAsk, out: &mut ReplyFrame, scratch: &mut Scratch) -> FramedReply
+        requires { out.old ≡ [] }
+        ensures answers { AnswersByKey self.old (AskGet (get_command ask.now))
+            result.reply self.new }
+        ensures put { PutsReply result.reply out.new result.put }
+    {
+        let index = usize::from(self.ring.index(&ask.key));
+        show_and_sweep(&mut self.vnodes[index], ask, self.budget, out, scratch)
+    }
+
     /// Answers a put.
     fn put(&mut self, alloc: Global, ask: PutAsk) -> Reply
         ensures { AnswersByKey self.old (AskPut (put_command ask)) result self.new }
@@ -154,6 +170,28 @@ impl Node for PlainNode {
             Request::Get(ask) => self.get(alloc, &ask),
             Request::Put(ask) => self.put(alloc, ask),
             Request::Del(ask) => self.del(alloc, ask),
+        }
+    }
+
+    #[inline(always)]
+    fn answer_into(
+        &mut self,
+        alloc: Global,
+        request: Request,
+        out: &mut ReplyFrame,
+        scratch: &mut Scratch,
+    ) -> FramedReply {
+        match request {
+            Request::Ping => put_whole(Reply::Ping, out, scratch),
+            Request::Get(ask) => self.get_into(&ask, out, scratch),
+            Request::Put(ask) => {
+                let reply = self.put(alloc, ask);
+                put_whole(reply, out, scratch)
+            }
+            Request::Del(ask) => {
+                let reply = self.del(alloc, ask);
+                put_whole(reply, out, scratch)
+            }
         }
     }
 }

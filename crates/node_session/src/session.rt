@@ -11,8 +11,8 @@ ghost use Rattle.node_session.specs.Unsent.{IsFront};
 use crate::answering::answer_next;
 use crate::exchange::Exchange;
 use crate::node::Node;
-use crate::outbox::Outbox;
 use crate::reply::frame_fault_text;
+use crate::reply_frame::ReplyFrame;
 use crate::scratch::Scratch;
 use crate::serving::MAX_READ_LEN;
 use ghost_state::{GhostList, Listing};
@@ -46,7 +46,7 @@ pub enum Halt {
 #[derive(Drop)]
 pub struct Session {
     framer: Framer,
-    outbox: Outbox,
+    outbox: ReplyFrame,
     input: GhostList<u8>,
     exchanges: GhostList<Exchange>,
 }
@@ -87,7 +87,7 @@ impl Session {
     {
         Session {
             framer: Framer::new(alloc, MAX_REQUEST_LEN),
-            outbox: Outbox::new(alloc),
+            outbox: ReplyFrame::new(alloc),
             input: GhostList::new(),
             exchanges: GhostList::new(),
         }
@@ -216,8 +216,15 @@ impl Session {
         requires sent { self.old.unsent ≡ [] }
         ensures { AnswersNext N.step node.old node.new self.old self.new result }
     {
-        match answer_next(alloc, &mut self.framer, &mut self.exchanges, node) {
-            Ok(Some(reply)) => match self.outbox.put(alloc, &*node, reply, scratch) {
+        match answer_next(
+            alloc,
+            &mut self.framer,
+            &mut self.exchanges,
+            node,
+            &mut self.outbox,
+            scratch,
+        ) {
+            Ok(Some(put)) => match put {
                 Ok(()) => Ok(Next::Answered),
                 Err(_) => Err(Halt::NoMemory),
             },

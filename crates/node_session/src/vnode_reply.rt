@@ -1,6 +1,6 @@
 //! The replies of one vnode to what it is asked, and its sweeps.
 
-ghost use Rattle.std.specs.Prelude.{◌≡◌, None};
+ghost use Rattle.std.specs.Prelude.{◌≡◌, [], None};
 ghost use Rattle.sibling_register.specs.Answers.{AskGet};
 ghost use Rattle.vnode_machine.specs.Asks.{get_command};
 ghost use Rattle.vnode_machine.specs.Dead.{swept};
@@ -8,7 +8,11 @@ ghost use Rattle.vnode_machine.specs.Step.{outcome};
 ghost use Rattle.vnode_core.specs.Plans.{IsWrite};
 ghost use Rattle.node_session.specs.PlainStep.{answer_reply, StepsBy, StepsByWrite};
 ghost use Rattle.node_session.specs.PlainNodes.{AnswersAndSweeps, WritesAndSweeps};
+ghost use Rattle.node_session.specs.Unsent.{PutsReply};
 
+use crate::framed_reply::{FramedReply, put_stored};
+use crate::reply_frame::ReplyFrame;
+use crate::scratch::Scratch;
 use riak_msgs::{GetAsk, Reply, Text};
 use std::alloc::Global;
 use tomb_reaper::sweep;
@@ -36,6 +40,17 @@ fn answer_get(vnode: &Vnode, alloc: Global, ask: &GetAsk) -> Reply
         Ok(reply) => Reply::Get(reply),
         Err(refusal) => Reply::Error(Text::from(refusal)),
     }
+}
+
+/// Answers a get, and puts the frame of the reply from where that lies.
+#[inline(always)]
+fn show(vnode: &Vnode, ask: &GetAsk, out: &mut ReplyFrame, scratch: &mut Scratch) -> FramedReply
+    requires { out.old ≡ [] }
+    ensures steps { StepsBy vnode.now.state
+        (outcome vnode.now.state (AskGet (get_command ask.now))) result.reply vnode.now.state }
+    ensures put { PutsReply result.reply out.new result.put }
+{
+    put_stored(&vnode.show(ask), out, scratch)
 }
 
 /// Answers a put or a delete of a vnode that isn't closed, and makes the change where it is accepted.
@@ -71,6 +86,26 @@ pub(crate) fn get_and_sweep(vnode: &mut Vnode, alloc: Global, ask: &GetAsk, budg
     let reply = answer_get(vnode, alloc, ask);
     forget_first(vnode, budget);
     reply
+}
+
+/// Answers a get, puts the frame of the reply, and forgets the vnode's first dead keys, so many at most.
+#[inline(always)]
+pub(crate) fn show_and_sweep(
+    vnode: &mut Vnode,
+    ask: &GetAsk,
+    budget: u32,
+    out: &mut ReplyFrame,
+    scratch: &mut Scratch,
+) -> FramedReply
+    requires { out.old ≡ [] }
+    ensures steps { AnswersAndSweeps budget vnode.old.state
+        (outcome vnode.old.state (AskGet (get_command ask.now))) result.reply vnode.new.state }
+    ensures closed { vnode.new.state.closed ≡ vnode.old.state.closed }
+    ensures put { PutsReply result.reply out.new result.put }
+{
+    let framed = show(vnode, ask, out, scratch);
+    forget_first(vnode, budget);
+    framed
 }
 
 /// Answers a put or a delete of a vnode that isn't closed, and forgets the vnode's first dead keys, so many at most.

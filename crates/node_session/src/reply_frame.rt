@@ -1,51 +1,54 @@
 //! The frame of a reply that is being sent.
 
 ghost use Rattle.std.specs.Prelude.{◌≡◌, ◌≤◌, [], length, drop, OnOk, OnErr, IfErr};
-ghost use Rattle.riak_msgs.specs.declared.reply.Reply.TheVariants.{Error};
+ghost use Rattle.riak_msgs.specs.declared.reply.Reply.TheVariants.{Error, Get};
 ghost use Rattle.node_session.specs.Answers.{reply_frame, HasNoFrame, IsFramed};
 ghost use Rattle.node_session.specs.Unsent.{PutsReply, IsFront};
 
-use crate::error_frame::error_frame;
-use crate::node::Node;
+use crate::constant_frames::{constant_frame, error_frame, nothing_frame};
 use crate::reply::fill_frame;
 use crate::scratch::Scratch;
 use pb_frame::FrameFault;
 use riak_msgs::{Reply, Text};
 use std::alloc::Global;
 use std::marker::Model;
+use vnode_core::StoredReply;
 
-/// The frame of a reply, of which some bytes were sent. That of an error takes no memory; that of another lies in room that the worker lends, where it
-/// finds enough there.
+/// The code of the reply to a get.
+const GET_CODE: u8 = 10;
+
+/// The frame of a reply, of which some bytes were sent. That of an error, and of a reply that shows nothing, takes no memory; that of another lies in
+/// room that the worker lends, where it finds enough there.
 ///
 /// Contracts see the bytes that are still to be sent.
 #[derive(Drop)]
-pub(crate) struct Outbox {
+pub struct ReplyFrame {
     // Those before `sent` were sent.
     frame: Vec<u8>,
     sent: usize,
-    // What is left of an error's frame.
-    error: &'static [u8],
+    // What is left of a frame that takes no memory.
+    constant: &'static [u8],
 }
 
-impl Model for Outbox {
+impl Model for ReplyFrame {
     ghost use Rattle.std.specs.Prelude.{ℕ, List, ◌++◌, ◌≤◌, drop, vec_len};
 
     ghost Value = { List ℕ };
 
-    ghost view = { λ o. drop o.sent o.frame.items ++ o.error.now };
+    ghost view = { λ o. drop o.sent o.frame.items ++ o.constant.now };
 
     ghost invariant = { λ o. o.sent ≤ vec_len o.frame };
 }
 
-impl Outbox {
+impl ReplyFrame {
     /// Nothing is to be sent. It takes no memory.
-    pub(crate) fn new(alloc: Global) -> Outbox
+    pub(crate) fn new(alloc: Global) -> ReplyFrame
         ensures { result ≡ [] }
     {
-        Outbox {
+        ReplyFrame {
             frame: Vec::new(alloc),
             sent: 0,
-            error: b"",
+            constant: b"",
         }
     }
 
@@ -53,7 +56,7 @@ impl Outbox {
     pub(crate) fn len(&self) -> usize
         ensures { result ≡ length self.now }
     {
-        self.frame.len() - self.sent + self.error.len()
+        self.frame.len() - self.sent + self.constant.len()
     }
 
     /// What is to be sent first.
@@ -63,7 +66,7 @@ impl Outbox {
         if self.sent < self.frame.len() {
             &self.frame[self.sent..]
         } else {
-            self.error
+            self.constant
         }
     }
 
@@ -76,7 +79,7 @@ impl Outbox {
         if n < waits {
             self.sent += n;
         } else {
-            self.error = &self.error[n - waits..];
+            self.constant = &self.constant[n - waits..];
             self.sent = 0;
             self.frame.clear();
         }
@@ -88,23 +91,22 @@ impl Outbox {
         ensures { self.new ≡ self.old }
     {
         self.sent = 0;
-        self.error = b"";
+        self.constant = b"";
         scratch.take_reply(&mut self.frame);
     }
 
     /// The buffer of its frame.
     pub(crate) fn into_frame(self) -> Vec<u8> {
-        let Outbox {
+        let ReplyFrame {
             frame,
             sent: _,
-            error: _,
+            constant: _,
         } = self;
         frame
     }
 
-    /// Puts the frame of a reply.
-    #[inline(always)]
-    fn put_frame(&mut self, reply: &Reply, scratch: &mut Scratch) -> Result<(), FrameFault>
+    /// Puts the frame of a reply that takes memory.
+    fn put_written(&mut self, reply: &Reply, scratch: &mut Scratch) -> Result<(), FrameFault>
         requires { self.old ≡ [] }
         ensures ok { OnOk result (self.new ≡ reply_frame reply.now) }
         ensures framed { OnOk result (IsFramed reply.now) }
@@ -113,65 +115,61 @@ impl Outbox {
     {
         self.frame.clear();
         self.sent = 0;
-        self.error = b"";
-        fill_frame(&mut self.frame, reply, scratch)
+        self.constant = b"";
+        fill_frame(&mut self.frame, reply.code(), reply, scratch)
     }
 
-    /// Puts the frame of a reply: once more where memory was refused and the node made room.
+    /// Puts a frame that takes no memory.
     #[inline(always)]
-    fn put_frame_for<N: Node>(
-        &mut self,
-        alloc: Global,
-        node: &N,
-        reply: &Reply,
-        scratch: &mut Scratch,
-    ) -> Result<(), FrameFault>
-        requires { self.old ≡ [] }
-        ensures ok { OnOk result (self.new ≡ reply_frame reply.now) }
-        ensures framed { OnOk result (IsFramed reply.now) }
-        ensures fault { IfErr result (HasNoFrame reply.now) }
-        ensures err { OnErr result (self.new ≡ []) }
+    fn put_constant(&mut self, frame: &'static [u8])
+        ensures { self.new ≡ frame.now }
     {
-        match self.put_frame(reply, scratch) {
-            Ok(()) => Ok(()),
-            Err(fault) => {
-                if fault == FrameFault::NoMemory && node.make_room(alloc) {
-                    return self.put_frame(reply, scratch);
-                }
-                Err(fault)
-            }
-        }
+        self.frame.clear();
+        self.sent = 0;
+        self.constant = frame;
     }
 
     /// Puts the frame of an error. It takes no memory.
-    pub(crate) fn put_error(&mut self, text: Text)
+    pub fn put_error(&mut self, text: Text)
         ensures put { self.new ≡ reply_frame (Error text) }
         ensures framed { IsFramed (Error text) }
     {
-        self.frame.clear();
-        self.sent = 0;
-        self.error = error_frame(text);
+        self.put_constant(error_frame(text));
     }
 
-    /// Puts the reply of a node where nothing else is to be sent, and lets it go. Refused by `TooLarge` just where a frame can't hold the
-    /// reply's body, and where memory is.
+    /// Puts the frame of a reply where nothing else is to be sent. Refused by `TooLarge` just where a frame can't hold the reply's body, and where
+    /// memory is. That of an error, of a ping or a delete, and of a get or a put that shows nothing takes no memory.
     #[inline(always)]
-    pub(crate) fn put<N: Node>(
+    pub fn put(&mut self, reply: &Reply, scratch: &mut Scratch) -> Result<(), FrameFault>
+        requires { self.old ≡ [] }
+        ensures { PutsReply reply.now self.new result }
+    {
+        match constant_frame(reply) {
+            Some(frame) => {
+                self.put_constant(frame);
+                Ok(())
+            }
+            None => self.put_written(reply, scratch),
+        }
+    }
+
+    /// Puts the frame of the reply to a get from where that lies, as `put` does that of a reply.
+    #[inline(always)]
+    pub fn put_stored(
         &mut self,
-        alloc: Global,
-        node: &N,
-        reply: Reply,
+        shown: &StoredReply<'_>,
         scratch: &mut Scratch,
     ) -> Result<(), FrameFault>
         requires { self.old ≡ [] }
-        ensures { PutsReply reply self.new result }
+        ensures { PutsReply (Get shown.now) self.new result }
     {
-        match reply {
-            Reply::Error(text) => {
-                self.put_error(text);
-                Ok(())
-            }
-            other => self.put_frame_for(alloc, node, &other, scratch),
+        if shown.is_empty() {
+            self.put_constant(nothing_frame());
+            return Ok(());
         }
+        self.frame.clear();
+        self.sent = 0;
+        self.constant = b"";
+        fill_frame(&mut self.frame, GET_CODE, shown, scratch)
     }
 }

@@ -1,12 +1,12 @@
 use Rattle.std.proofs.Common.{◌≡◌, ℕ, ◌-◌, List, [], ◌++◌, length, take, drop, ◌∙◌, ap, sym, arith}
 use Rattle.std.proofs.lemmas.List.{length-drop, take_rest}
 use Rattle.node_session.proofs.SentParts.{drop_past}
-use Rattle.node_session.proofs.outbox.Outbox.sent.Goals as goal
+use Rattle.node_session.proofs.reply_frame.ReplyFrame.sent.Goals as goal
 
 pub returns-else-n-waits : goal.returns-else-n-waits
 returns-else-n-waits c =
     let was = c.self.inside in
-    let late = was.error.now in
+    let late = was.constant.now in
     let left = drop was.sent was.frame.items in
     let gone = c.args.n - (c.len.result - was.sent) in
     let items : c.clear.new.self.items ≡ [] = c.clear.ensures.items in
