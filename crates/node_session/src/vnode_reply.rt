@@ -20,6 +20,7 @@ use vnode_core::{Answer, Ask, Plan, Reaped, Vnode};
 
 /// The reply for a vnode's answer to a change. No request asks for a reap, and one is replied to as a delete is; of a vnode that is
 /// closed, or that was asked for a copy, it is the error `moved`. It takes no memory.
+#[inline(always)]
 pub fn answer_reply(answer: Answer) -> Reply
     ensures { result ≡ answer_reply answer }
 {
@@ -54,6 +55,7 @@ fn show(vnode: &Vnode, ask: &GetAsk, out: &mut ReplyFrame, scratch: &mut Scratch
 }
 
 /// Answers a put or a delete of a vnode that isn't closed, and makes the change where it is accepted.
+#[inline(always)]
 fn answer_change(vnode: &mut Vnode, alloc: Global, ask: Ask) -> Reply
     requires opened { vnode.old.state.closed ≡ None }
     requires write { IsWrite ask }
@@ -109,6 +111,7 @@ pub(crate) fn show_and_sweep(
 }
 
 /// Answers a put or a delete of a vnode that isn't closed, and forgets the vnode's first dead keys, so many at most.
+#[inline(always)]
 pub(crate) fn change_and_sweep(vnode: &mut Vnode, alloc: Global, ask: Ask, budget: u32) -> Reply
     requires opened { vnode.old.state.closed ≡ None }
     requires write { IsWrite ask }
