@@ -1,13 +1,13 @@
 //! The requests to a partition's fallback, which is asked no more once it is closed.
-ghost use Rattle.std.specs.Prelude.{◌≡◌, Some, IfOk, IfErr, IfSome};
+ghost use Rattle.std.specs.Prelude.{◌≡◌, Some, IfOk, IfErr, IfSome, OnErr};
 ghost use mathlib.Core.List.{IsPrefix};
 ghost use Rattle.gate_node.specs.Asked.{ChangesOpen, GetsOpen, HasSeenClose, IsClosedWith};
 ghost use Rattle.gate_node.specs.Asked.{ComesOf, IsOfOpenVnode, IsShownOpen, ShowsOpen};
 ghost use Rattle.gate_node.specs.Passes.{AnswersAtFallback, AnswersBy, FindsClosed, FitsPartition, IsClosedBy};
 
-use crate::gated_vnode::show;
+use crate::get_answer::GetAnswer;
 use crate::passes::{FallbackPass, renew};
-use crate::replies::{counted_reply, get_quantity};
+use crate::replies::counted_reply;
 use crate::reserve::ReserveOf;
 use crate::shared::Shared;
 use crate::turnstile::Turnstile;
@@ -20,23 +20,28 @@ use std::sync::Wait;
 use vnode_core::{Answer, Ask, Refusal, Vnode};
 
 /// Shows a vnode's state to a get, or the number of its close.
-fn show_open(
+fn show_open<A: GetAnswer>(
     vnode: &Vnode,
     alloc: Global,
     reserve: ReserveOf<'_>,
     get: &GetAsk,
-) -> Result<Reply, u64>
-    ensures shown { IfOk result (λ reply. ShowsOpen get.now reply vnode.now.state) }
+    frame: &mut A::Frame,
+    room: &mut A::Room,
+) -> Result<A, u64>
+    requires { A.is_free frame.old }
+    ensures shown { IfOk result (λ reply. ShowsOpen get.now (A.reply reply) vnode.now.state) }
+    ensures put { IfOk result (λ reply. A.is_put reply frame.new) }
     ensures closed { IfErr result (λ number. vnode.now.state.closed ≡ Some number) }
+    ensures free { OnErr result (A.is_free frame.new) }
 {
     match vnode.closed_at() {
-        None => Ok(show(vnode, alloc, reserve, get)),
+        None => Ok(A::show(vnode, alloc, reserve, get, frame, room)),
         Some(number) => Err(number),
     }
 }
 
 /// Answers a get, under a right to read, behind the turnstile; or gives the number of the vnode's close.
-fn answer_get_open<W: Wait, T: Turnstile>(
+fn answer_get_open<W: Wait, T: Turnstile, A: GetAnswer>(
     rt: &W,
     alloc: Global,
     shared: &Shared,
@@ -45,24 +50,30 @@ fn answer_get_open<W: Wait, T: Turnstile>(
     gate: &Gate<Vnode>,
     pass: &mut Pass<Vnode>,
     get: &GetAsk,
-) -> Result<Reply, u64>
-    requires { pass.old.gate ≡ gate.now }
+    frame: &mut A::Frame,
+    room: &mut A::Room,
+) -> Result<A, u64>
+    requires pass { pass.old.gate ≡ gate.now }
+    requires free { A.is_free frame.old }
     ensures gate { pass.new.gate ≡ pass.old.gate }
     ensures more { IsPrefix pass.old.prefix pass.new.prefix }
-    ensures shown { IfOk result (λ reply. IsShownOpen get.now pass.old pass.new reply) }
+    ensures shown { IfOk result (λ reply.
+        IsShownOpen get.now pass.old pass.new (A.reply reply)) }
+    ensures put { IfOk result (λ reply. A.is_put reply frame.new) }
     ensures closed { IfErr result (λ number. IsClosedWith number pass.old pass.new) }
+    ensures free { OnErr result (A.is_free frame.new) }
 {
     let right = gate.read(rt);
     shared.enter(turnstile);
     match right.look(pass) {
         Ok(vnode) => {
-            let found = show_open(vnode, alloc, reserve, get);
+            let found = show_open::<A>(vnode, alloc, reserve, get, frame, room);
             right.release();
             found
         }
         Err(_) => {
             right.release();
-            Ok(Reply::Error(Text::Moved))
+            Ok(A::error(Text::Moved, frame))
         }
     }
 }
@@ -120,7 +131,7 @@ fn answer_change_open<W: Wait, T: Turnstile>(
 }
 
 /// Answers a get at a fallback by a pass of it, or gives the number of its close, which the pass keeps.
-fn get_by<W: Wait, T: Turnstile>(
+fn get_by<W: Wait, T: Turnstile, A: GetAnswer>(
     rt: &W,
     alloc: Global,
     shared: &Shared,
@@ -129,17 +140,22 @@ fn get_by<W: Wait, T: Turnstile>(
     gate: &Gate<Vnode>,
     kept: &mut FallbackPass,
     get: &GetAsk,
-) -> Result<(Reply, Option<Quantity>), u64>
+    frame: &mut A::Frame,
+    room: &mut A::Room,
+) -> Result<(A, Option<Quantity>), u64>
     requires gate { kept.old.pass.gate ≡ gate.now }
     requires seen { IfSome kept.old.closed (HasSeenClose kept.old.pass) }
+    requires free { A.is_free frame.old }
     ensures answers { IfOk result (λ a. AnswersBy kept.old kept.new
-        (λ p q. GetsOpen get.now p q a.0 a.1)) }
+        (λ p q. GetsOpen get.now p q (A.reply a.0) a.1)) }
+    ensures put { IfOk result (λ a. A.is_put a.0 frame.new) }
     ensures closed { IfErr result (λ number. IsClosedBy number kept.old kept.new) }
+    ensures free { OnErr result (A.is_free frame.new) }
 {
     if let Some(number) = kept.closed {
         return Err(number);
     }
-    match answer_get_open(
+    match answer_get_open::<W, T, A>(
         rt,
         alloc,
         shared,
@@ -148,9 +164,11 @@ fn get_by<W: Wait, T: Turnstile>(
         gate,
         &mut kept.pass,
         get,
+        frame,
+        room,
     ) {
         Ok(reply) => {
-            let quantity = Some(get_quantity(&reply));
+            let quantity = Some(reply.quantity());
             Ok((reply, quantity))
         }
         Err(number) => {
@@ -191,7 +209,7 @@ fn change_by<W: Wait, T: Turnstile>(
 
 /// Answers a get at the fallback of a partition, by the pass of it that is kept, and what that is counted as; or gives the number of the
 /// fallback's close.
-pub(crate) fn get_diverted<W: Wait, T: Turnstile>(
+pub(crate) fn get_diverted<W: Wait, T: Turnstile, A: GetAnswer>(
     rt: &W,
     alloc: Global,
     shared: &Shared,
@@ -200,15 +218,20 @@ pub(crate) fn get_diverted<W: Wait, T: Turnstile>(
     fallback: &Fallback,
     kept: &mut Option<FallbackPass>,
     get: &GetAsk,
-) -> Result<(Reply, Option<Quantity>), u64>
-    requires { FitsPartition (Some fallback.now) kept.old }
+    frame: &mut A::Frame,
+    room: &mut A::Room,
+) -> Result<(A, Option<Quantity>), u64>
+    requires fits { FitsPartition (Some fallback.now) kept.old }
+    requires free { A.is_free frame.old }
     ensures answers { IfOk result (λ a. AnswersAtFallback fallback.now kept.old kept.new
-        (λ p q. GetsOpen get.now p q a.0 a.1)) }
+        (λ p q. GetsOpen get.now p q (A.reply a.0) a.1)) }
+    ensures put { IfOk result (λ a. A.is_put a.0 frame.new) }
     ensures closed { IfErr result (FindsClosed fallback.now kept.old kept.new) }
+    ensures free { OnErr result (A.is_free frame.new) }
 {
     renew(kept, fallback);
     match kept {
-        Some(kept) => get_by(
+        Some(kept) => get_by::<W, T, A>(
             rt,
             alloc,
             shared,
@@ -217,6 +240,8 @@ pub(crate) fn get_diverted<W: Wait, T: Turnstile>(
             &fallback.gate,
             kept,
             get,
+            frame,
+            room,
         ),
         None => unreachable!(),
     }

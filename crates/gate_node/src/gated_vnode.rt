@@ -1,9 +1,10 @@
 //! The requests to one vnode behind a gate.
 ghost use Rattle.std.specs.Prelude.{◌≡◌, nat_le, length};
 ghost use mathlib.Core.List.{IsPrefix};
-ghost use Rattle.gate_node.specs.Asked.{RepliesToGet, IsShownGet, Gets, Changes, ReapsUpTo, AnswersAndReaps};
+ghost use Rattle.gate_node.specs.Asked.{IsShownGet, Gets, Changes, ReapsUpTo, AnswersAndReaps};
 
-use crate::replies::{counted_reply, get_quantity};
+use crate::get_answer::GetAnswer;
+use crate::replies::counted_reply;
 use crate::reserve::ReserveOf;
 use crate::shared::Shared;
 use crate::turnstile::Turnstile;
@@ -14,42 +15,17 @@ use std::alloc::Global;
 use std::sync::Wait;
 use vnode_core::{Ask, Vnode};
 
-/// Shows a vnode's state to a get, once.
-fn show_once(vnode: &Vnode, alloc: Global, get: &GetAsk) -> Reply
-    ensures { RepliesToGet get.now result vnode.now.state }
-{
-    match vnode.get(alloc, get) {
-        Ok(reply) => Reply::Get(reply),
-        Err(refusal) => Reply::Error(Text::from(refusal)),
-    }
-}
-
-/// Shows a vnode's state to a get: once more where memory was refused, and the thread gave up what it keeps back.
-#[inline(always)]
-pub(crate) fn show(vnode: &Vnode, alloc: Global, reserve: ReserveOf<'_>, get: &GetAsk) -> Reply
-    ensures { RepliesToGet get.now result vnode.now.state }
-{
-    match vnode.get(alloc, get) {
-        Ok(reply) => Reply::Get(reply),
-        Err(refusal) => {
-            if reserve.give_up() {
-                return show_once(vnode, alloc, get);
-            }
-            Reply::Error(Text::from(refusal))
-        }
-    }
-}
-
-/// A reply, what it is counted as, and how many dead keys were forgotten then.
+/// A reply as it is handed on, what it is counted as, and how many dead keys were forgotten then.
 #[derive(Drop)]
-pub(crate) struct Answered {
-    pub(crate) reply: Reply,
+pub(crate) struct Answered<A> {
+    pub(crate) reply: A,
     pub(crate) quantity: Option<Quantity>,
     pub(crate) reaps: u32,
 }
 
 /// Answers a get, under a right to read, behind the turnstile.
-fn answer_get<W: Wait, T: Turnstile>(
+#[inline(always)]
+fn answer_get<W: Wait, T: Turnstile, A: GetAnswer>(
     rt: &W,
     alloc: Global,
     shared: &Shared,
@@ -58,23 +34,27 @@ fn answer_get<W: Wait, T: Turnstile>(
     gate: &Gate<Vnode>,
     pass: &mut Pass<Vnode>,
     get: &GetAsk,
-) -> Reply
-    requires { pass.old.gate ≡ gate.now }
+    frame: &mut A::Frame,
+    room: &mut A::Room,
+) -> A
+    requires pass { pass.old.gate ≡ gate.now }
+    requires free { A.is_free frame.old }
     ensures gate { pass.new.gate ≡ pass.old.gate }
     ensures more { IsPrefix pass.old.prefix pass.new.prefix }
-    ensures shown { IsShownGet get.now pass.old pass.new result }
+    ensures shown { IsShownGet get.now pass.old pass.new (A.reply result) }
+    ensures put { A.is_put result frame.new }
 {
     let right = gate.read(rt);
     shared.enter(turnstile);
     match right.look(pass) {
         Ok(vnode) => {
-            let reply = show(vnode, alloc, reserve, get);
+            let reply = A::show(vnode, alloc, reserve, get, frame, room);
             right.release();
             reply
         }
         Err(_) => {
             right.release();
-            Reply::Error(Text::Moved)
+            A::error(Text::Moved, frame)
         }
     }
 }
@@ -126,7 +106,8 @@ fn reap<W: Wait>(
 }
 
 /// Answers a get, and then forgets the vnode's first dead keys, as many as the budget allows.
-pub(crate) fn get_and_reap<W: Wait, T: Turnstile>(
+#[inline(always)]
+pub(crate) fn get_and_reap<W: Wait, T: Turnstile, A: GetAnswer>(
     rt: &W,
     alloc: Global,
     shared: &Shared,
@@ -135,14 +116,20 @@ pub(crate) fn get_and_reap<W: Wait, T: Turnstile>(
     gate: &Gate<Vnode>,
     pass: &mut Pass<Vnode>,
     get: &GetAsk,
-) -> Answered
-    requires { pass.old.gate ≡ gate.now }
+    frame: &mut A::Frame,
+    room: &mut A::Room,
+) -> Answered<A>
+    requires pass { pass.old.gate ≡ gate.now }
+    requires free { A.is_free frame.old }
     ensures gate { pass.new.gate ≡ pass.old.gate }
     ensures steps { AnswersAndReaps shared.now.budget result.reaps
-        (λ p q. Gets get.now p q result.reply result.quantity) pass.old pass.new }
+        (λ p q. Gets get.now p q (A.reply result.reply) result.quantity) pass.old pass.new }
+    ensures put { A.is_put result.reply frame.new }
 {
-    let reply = answer_get(rt, alloc, shared, turnstile, reserve, gate, pass, get);
-    let quantity = Some(get_quantity(&reply));
+    let reply = answer_get::<W, T, A>(
+        rt, alloc, shared, turnstile, reserve, gate, pass, get, frame, room,
+    );
+    let quantity = Some(reply.quantity());
     let reaps = reap(rt, alloc, gate, pass, shared.budget);
     Answered {
         reply,
@@ -160,7 +147,7 @@ pub(crate) fn change_and_reap<W: Wait, T: Turnstile>(
     gate: &Gate<Vnode>,
     pass: &mut Pass<Vnode>,
     change: Ask,
-) -> Answered
+) -> Answered<Reply>
     requires { pass.old.gate ≡ gate.now }
     ensures gate { pass.new.gate ≡ pass.old.gate }
     ensures steps { AnswersAndReaps shared.now.budget result.reaps

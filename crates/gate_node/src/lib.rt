@@ -59,6 +59,8 @@
 mod diverted;
 mod fault;
 mod gated_vnode;
+mod get_answer;
+mod gets;
 mod kept;
 mod laws;
 mod merging;

@@ -1,20 +1,20 @@
 //! A node over the gates of a run.
 ghost use Rattle.std.specs.Prelude.{◌≡◌, ◌<◌, ◌^◌, Some, IfOk, IfErr, false, true, nat_le, slice_get};
 ghost use Rattle.handoff.specs.Partitions.{IsFallback};
-ghost use Rattle.gate_node.specs.Asked.{Gets, GetsOpen, Changes, ChangesOpen};
+ghost use Rattle.gate_node.specs.Asked.{Changes, ChangesOpen};
 ghost use Rattle.gate_node.specs.GateStep.{AtIndex, AtClosed, LooksAtPrimary, AtIndexFrom};
 ghost use Rattle.gate_node.specs.GateStep.{AnswersError, AsksFallback, AtDiverted, AnswersAtPartition, events_seen};
 ghost use Rattle.gate_node.specs.Passes.{ArePassesOf};
 
-use crate::diverted::{change_diverted, get_diverted};
-use crate::gated_vnode::{catch_up, change_and_reap, get_and_reap};
+use crate::diverted::change_diverted;
+use crate::gated_vnode::{catch_up, change_and_reap};
 use crate::partition_cache::PartitionCache;
 use crate::passes::{FallbackPass, Passes, make_places};
 use crate::reserve::Reserve;
 use crate::shared::Shared;
 use crate::turnstile::Turnstile;
 use handoff::Fallback;
-use riak_msgs::{GetAsk, Reply, Text};
+use riak_msgs::{Reply, Text};
 use rw_gate::Pass;
 use stats_book::{Book, Quantity, ReplyCounter, Share};
 use std::alloc::Global;
@@ -46,15 +46,15 @@ pub struct GateNode<
     E: Ledger,
     R: Ledger,
 > {
-    rt: &'a W,
+    pub(crate) rt: &'a W,
     pub(crate) shared: &'a Shared,
-    turnstile: &'a T,
-    counter: ReplyCounter<'a, G, P, D, E, R>,
-    primaries: Vec<Pass<Vnode>>,
+    pub(crate) turnstile: &'a T,
+    pub(crate) counter: ReplyCounter<'a, G, P, D, E, R>,
+    pub(crate) primaries: Vec<Pass<Vnode>>,
     /// How many partitions there are.
-    size: usize,
+    pub(crate) size: usize,
     /// A place for each partition, once a fallback was met; none before.
-    fallbacks: Vec<Option<FallbackPass>>,
+    pub(crate) fallbacks: Vec<Option<FallbackPass>>,
     /// What the thread keeps back, if anything.
     pub(crate) reserve: Option<&'a Reserve>,
     /// The partitions of the keys that the thread met, if it remembers them.
@@ -150,30 +150,6 @@ impl<'a, W: Wait, T: Turnstile, G: Ledger, P: Ledger, D: Ledger, E: Ledger, R: L
         (share, passes, is_book_full)
     }
 
-    /// Answers a get at the primary of a partition.
-    fn get_at_primary(&mut self, alloc: Global, index: usize, get: &GetAsk) -> Reply
-        requires { index < 2 ^ self.old.shared.index_bits }
-        ensures { AtIndex index self.old self.new (λ p q. Gets get.now p q result) }
-    {
-        let shared = self.shared;
-        let gates = shared.handoff.gates();
-        let gate = &gates[index];
-        let reserve = shared.reserve(self.reserve);
-        let pass = &mut self.primaries[index];
-        let answered = get_and_reap(
-            self.rt,
-            alloc,
-            shared,
-            self.turnstile,
-            reserve,
-            gate,
-            pass,
-            get,
-        );
-        self.counter.count_answer(answered.quantity, answered.reaps);
-        answered.reply
-    }
-
     /// Answers what may change a vnode at the primary of a partition.
     fn change_at_primary(&mut self, alloc: Global, index: usize, change: Ask) -> Reply
         requires { index < 2 ^ self.old.shared.index_bits }
@@ -194,45 +170,6 @@ impl<'a, W: Wait, T: Turnstile, G: Ledger, P: Ledger, D: Ledger, E: Ledger, R: L
     {
         self.counter.count_answer(Some(Quantity::Refusals), 0);
         Reply::Error(text)
-    }
-
-    /// Answers a get at the fallback of a partition, or gives the number of its close.
-    fn get_at_fallback(
-        &mut self,
-        alloc: Global,
-        index: usize,
-        fallback: &Fallback,
-        get: &GetAsk,
-    ) -> Result<Reply, u64>
-        requires diverted { slice_get self.old.shared.fallbacks index
-            ≡ Some (Some fallback.now) }
-        requires new { IsFallback self.old.shared.run index fallback.now }
-        ensures answers { IfOk result (λ reply.
-            AsksFallback index self.old reply self.new (GetsOpen get.now)) }
-        ensures closed { IfErr result (λ number. AtClosed index number self.old self.new) }
-    {
-        if !make_places(alloc, self.size, &mut self.fallbacks) {
-            return Ok(self.answer_error(Text::NoMemory));
-        }
-        let shared = self.shared;
-        let reserve = shared.reserve(self.reserve);
-        let kept = &mut self.fallbacks[index];
-        match get_diverted(
-            self.rt,
-            alloc,
-            shared,
-            self.turnstile,
-            reserve,
-            fallback,
-            kept,
-            get,
-        ) {
-            Ok((reply, quantity)) => {
-                self.counter.count_answer(quantity, 0);
-                Ok(reply)
-            }
-            Err(number) => Err(number),
-        }
     }
 
     /// Answers what may change a vnode at the fallback of a partition, or gives the number of its close, and the ask.
@@ -275,7 +212,7 @@ impl<'a, W: Wait, T: Turnstile, G: Ledger, P: Ledger, D: Ledger, E: Ledger, R: L
 
     /// Shows the primary of a partition to the pass of it, where that has seen fewer events than so many; and whether it has seen as many
     /// then.
-    fn catch_up(&mut self, index: usize, number: u64) -> bool
+    pub(crate) fn catch_up(&mut self, index: usize, number: u64) -> bool
         requires { index < 2 ^ self.old.shared.index_bits }
         ensures looks { LooksAtPrimary index self.old self.new }
         ensures far { result ≡ nat_le number (events_seen self.new index) }
@@ -287,18 +224,6 @@ impl<'a, W: Wait, T: Turnstile, G: Ledger, P: Ledger, D: Ledger, E: Ledger, R: L
         catch_up(self.rt, gate, pass, number)
     }
 
-    /// Answers a get at the primary of a partition whose fallback is closed with this number.
-    fn get_returned(&mut self, alloc: Global, index: usize, number: u64, get: &GetAsk) -> Reply
-        requires { index < 2 ^ self.old.shared.index_bits }
-        ensures { AtIndexFrom index number self.old result self.new (Gets get.now) }
-    {
-        if self.catch_up(index, number) {
-            self.get_at_primary(alloc, index, get)
-        } else {
-            self.answer_error(Text::Moved)
-        }
-    }
-
     /// Answers what may change a vnode at the primary of a partition whose fallback is closed with this number.
     fn change_returned(&mut self, alloc: Global, index: usize, number: u64, change: Ask) -> Reply
         requires { index < 2 ^ self.old.shared.index_bits }
@@ -308,26 +233,6 @@ impl<'a, W: Wait, T: Turnstile, G: Ledger, P: Ledger, D: Ledger, E: Ledger, R: L
             self.change_at_primary(alloc, index, change)
         } else {
             self.answer_error(Text::Moved)
-        }
-    }
-
-    /// Answers a get at a partition with a fallback: at that, or at the primary where it is closed.
-    fn get_at_diverted(
-        &mut self,
-        alloc: Global,
-        index: usize,
-        fallback: &Fallback,
-        get: &GetAsk,
-    ) -> Reply
-        requires within { index < 2 ^ self.old.shared.index_bits }
-        requires diverted { slice_get self.old.shared.fallbacks index
-            ≡ Some (Some fallback.now) }
-        requires new { IsFallback self.old.shared.run index fallback.now }
-        ensures { AtDiverted index self.old result self.new (Gets get.now) (GetsOpen get.now) }
-    {
-        match self.get_at_fallback(alloc, index, fallback, get) {
-            Ok(reply) => reply,
-            Err(number) => self.get_returned(alloc, index, number, get),
         }
     }
 
@@ -348,19 +253,6 @@ impl<'a, W: Wait, T: Turnstile, G: Ledger, P: Ledger, D: Ledger, E: Ledger, R: L
         match self.change_at_fallback(alloc, index, fallback, change) {
             Ok(reply) => reply,
             Err((number, change)) => self.change_returned(alloc, index, number, change),
-        }
-    }
-
-    /// Answers a get, at the primary of a partition that has no fallback.
-    pub(crate) fn get(&mut self, alloc: Global, index: usize, get: &GetAsk) -> Reply
-        requires { index < 2 ^ self.old.shared.index_bits }
-        ensures { AnswersAtPartition index self.old result self.new
-            (Gets get.now) (GetsOpen get.now) }
-    {
-        let shared = self.shared;
-        match shared.handoff.fallback(index) {
-            None => self.get_at_primary(alloc, index, get),
-            Some(fallback) => self.get_at_diverted(alloc, index, fallback, get),
         }
     }
 

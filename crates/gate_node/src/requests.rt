@@ -1,12 +1,36 @@
 //! What a node over gates answers to a request.
+ghost use Rattle.std.specs.Prelude.{◌≡◌, []};
+ghost use Rattle.node_session.specs.Unsent.{PutsReply};
+
+use crate::get_answer::{FramedGet, NoFrame};
 use crate::node::GateNode;
+use crate::reserve::ReserveOf;
 use crate::turnstile::Turnstile;
-use node_session::Node;
+use node_session::{FramedReply, Node, ReplyFrame, Scratch, put_reply};
 use riak_msgs::{Reply, Request};
 use std::alloc::Global;
 use std::sync::Wait;
 use std::sync::ledger::Ledger;
 use vnode_core::Ask;
+
+/// Puts the frame of a reply, and lets it go: once more where memory was refused, and the thread gave up what it keeps back.
+#[inline(always)]
+fn put_whole(
+    reserve: ReserveOf<'_>,
+    reply: Reply,
+    out: &mut ReplyFrame,
+    scratch: &mut Scratch,
+) -> FramedReply
+    requires { out.old ≡ [] }
+    ensures reply { result.reply ≡ reply }
+    ensures put { PutsReply reply out.new result.put }
+{
+    let framed = put_reply(&reply, out, scratch);
+    if framed.is_refused() && reserve.give_up() {
+        return put_reply(&reply, out, scratch);
+    }
+    framed
+}
 
 impl<'a, W: Wait, T: Turnstile, G: Ledger, P: Ledger, D: Ledger, E: Ledger, R: Ledger> Node
     for GateNode<'a, W, T, G, P, D, E, R> {
@@ -19,7 +43,7 @@ impl<'a, W: Wait, T: Turnstile, G: Ledger, P: Ledger, D: Ledger, E: Ledger, R: L
             Request::Ping => Reply::Ping,
             Request::Get(get) => {
                 let index = self.index(&get.key);
-                self.get(alloc, index, &get)
+                self.get::<Reply>(alloc, index, &get, &mut NoFrame, &mut NoFrame)
             }
             Request::Put(put) => {
                 let index = self.index(&put.key);
@@ -28,6 +52,39 @@ impl<'a, W: Wait, T: Turnstile, G: Ledger, P: Ledger, D: Ledger, E: Ledger, R: L
             Request::Del(del) => {
                 let index = self.index(&del.key);
                 self.change(alloc, index, Ask::Del(del))
+            }
+        }
+    }
+
+    #[inline(always)]
+    fn answer_into(
+        &mut self,
+        alloc: Global,
+        request: Request,
+        out: &mut ReplyFrame,
+        scratch: &mut Scratch,
+    ) -> FramedReply {
+        match request {
+            Request::Ping => put_whole(
+                self.shared.reserve(self.reserve),
+                Reply::Ping,
+                out,
+                scratch,
+            ),
+            Request::Get(get) => {
+                let index = self.index(&get.key);
+                self.get::<FramedGet>(alloc, index, &get, out, scratch)
+                    .framed
+            }
+            Request::Put(put) => {
+                let index = self.index(&put.key);
+                let reply = self.change(alloc, index, Ask::Put(put));
+                put_whole(self.shared.reserve(self.reserve), reply, out, scratch)
+            }
+            Request::Del(del) => {
+                let index = self.index(&del.key);
+                let reply = self.change(alloc, index, Ask::Del(del));
+                put_whole(self.shared.reserve(self.reserve), reply, out, scratch)
             }
         }
     }

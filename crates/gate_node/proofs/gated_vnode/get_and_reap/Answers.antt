@@ -13,6 +13,6 @@ returns-clause-steps g c =
       answered = c.answer_get-reply.new.pass;
       gate = c.answer_get-reply.ensures.gate;
       more = c.answer_get-reply.ensures.more;
-      answers = (c.answer_get-reply.ensures.shown, ap Some c.get_quantity.ensures);
+      answers = (c.answer_get-reply.ensures.shown, ap Some c.quantity.ensures);
       reaps = subst (λ (gates : Gates). ReapsUpTo gates.budget c.reap-reaps.result c.answer_get-reply.new.pass c.reap-reaps.new.pass) c.shared.view_is c.reap-reaps.ensures.reaps;
     }

@@ -7,7 +7,7 @@ use Rattle.gate_node.proofs.requests.GateNodeNode.answer.Goals as goal
 
 pub returns-in-Get : goal.returns-in-Get
 returns-in-Get g c =
-    let at = subst (λ n. AnswersAtPartition n c.args.self.now c.get.result c.get.new.self (Gets c.in-Get.get) (GetsOpen c.in-Get.get)) c.index-index.ensures.index c.get.ensures in
+    let at = subst (λ n. AnswersAtPartition n c.args.self.now c.get.result c.get.new.self (Gets c.in-Get.get) (GetsOpen c.in-Get.get)) c.index-index.ensures.index c.get.ensures.answers in
     subst (λ (r : Request). GateNodeStep c.args.self.now r c.get.result c.get.new.self) (sym c.in-Get.is) at
 
 pub returns-in-Put : goal.returns-in-Put

@@ -1,0 +1,196 @@
+//! The gets of a node over the gates of a run.
+ghost use Rattle.std.specs.Prelude.{◌≡◌, ◌<◌, ◌^◌, Some, IfOk, IfErr, OnErr, slice_get};
+ghost use Rattle.handoff.specs.Partitions.{IsFallback};
+ghost use Rattle.gate_node.specs.Asked.{Gets, GetsOpen};
+ghost use Rattle.gate_node.specs.GateStep.{AtIndex, AtClosed, AtIndexFrom};
+ghost use Rattle.gate_node.specs.GateStep.{AnswersError, AsksFallback, AtDiverted, AnswersAtPartition};
+
+use crate::diverted::get_diverted;
+use crate::gated_vnode::get_and_reap;
+use crate::get_answer::GetAnswer;
+use crate::node::GateNode;
+use crate::passes::make_places;
+use crate::turnstile::Turnstile;
+use handoff::Fallback;
+use riak_msgs::{GetAsk, Text};
+use stats_book::Quantity;
+use std::alloc::Global;
+use std::sync::Wait;
+use std::sync::ledger::Ledger;
+
+impl<'a, W: Wait, T: Turnstile, G: Ledger, P: Ledger, D: Ledger, E: Ledger, R: Ledger> GateNode<
+    'a,
+    W,
+    T,
+    G,
+    P,
+    D,
+    E,
+    R,
+> {
+    /// Answers a get at the primary of a partition.
+    #[inline(always)]
+    fn get_at_primary<A: GetAnswer>(
+        &mut self,
+        alloc: Global,
+        index: usize,
+        get: &GetAsk,
+        frame: &mut A::Frame,
+        room: &mut A::Room,
+    ) -> A
+        requires within { index < 2 ^ self.old.shared.index_bits }
+        requires free { A.is_free frame.old }
+        ensures answers { AtIndex index self.old self.new
+            (λ p q. Gets get.now p q (A.reply result)) }
+        ensures put { A.is_put result frame.new }
+    {
+        let shared = self.shared;
+        let gates = shared.handoff.gates();
+        let gate = &gates[index];
+        let reserve = shared.reserve(self.reserve);
+        let pass = &mut self.primaries[index];
+        let answered = get_and_reap::<W, T, A>(
+            self.rt,
+            alloc,
+            shared,
+            self.turnstile,
+            reserve,
+            gate,
+            pass,
+            get,
+            frame,
+            room,
+        );
+        self.counter.count_answer(answered.quantity, answered.reaps);
+        answered.reply
+    }
+
+    /// Answers a get by an error that changes nothing.
+    fn get_error<A: GetAnswer>(&mut self, text: Text, frame: &mut A::Frame) -> A
+        requires { A.is_free frame.old }
+        ensures answers { AnswersError text self.old (A.reply result) self.new }
+        ensures put { A.is_put result frame.new }
+    {
+        self.counter.count_answer(Some(Quantity::Refusals), 0);
+        A::error(text, frame)
+    }
+
+    /// Answers a get at the fallback of a partition, or gives the number of its close.
+    fn get_at_fallback<A: GetAnswer>(
+        &mut self,
+        alloc: Global,
+        index: usize,
+        fallback: &Fallback,
+        get: &GetAsk,
+        frame: &mut A::Frame,
+        room: &mut A::Room,
+    ) -> Result<A, u64>
+        requires diverted { slice_get self.old.shared.fallbacks index
+            ≡ Some (Some fallback.now) }
+        requires new { IsFallback self.old.shared.run index fallback.now }
+        requires free { A.is_free frame.old }
+        ensures answers { IfOk result (λ reply.
+            AsksFallback index self.old (A.reply reply) self.new (GetsOpen get.now)) }
+        ensures put { IfOk result (λ reply. A.is_put reply frame.new) }
+        ensures closed { IfErr result (λ number. AtClosed index number self.old self.new) }
+        ensures free { OnErr result (A.is_free frame.new) }
+    {
+        if !make_places(alloc, self.size, &mut self.fallbacks) {
+            return Ok(self.get_error::<A>(Text::NoMemory, frame));
+        }
+        let shared = self.shared;
+        let reserve = shared.reserve(self.reserve);
+        let kept = &mut self.fallbacks[index];
+        match get_diverted::<W, T, A>(
+            self.rt,
+            alloc,
+            shared,
+            self.turnstile,
+            reserve,
+            fallback,
+            kept,
+            get,
+            frame,
+            room,
+        ) {
+            Ok((reply, quantity)) => {
+                self.counter.count_answer(quantity, 0);
+                Ok(reply)
+            }
+            Err(number) => Err(number),
+        }
+    }
+
+    /// Answers a get at the primary of a partition whose fallback is closed with this number.
+    fn get_returned<A: GetAnswer>(
+        &mut self,
+        alloc: Global,
+        index: usize,
+        number: u64,
+        get: &GetAsk,
+        frame: &mut A::Frame,
+        room: &mut A::Room,
+    ) -> A
+        requires within { index < 2 ^ self.old.shared.index_bits }
+        requires free { A.is_free frame.old }
+        ensures answers { AtIndexFrom index number self.old (A.reply result) self.new
+            (Gets get.now) }
+        ensures put { A.is_put result frame.new }
+    {
+        if self.catch_up(index, number) {
+            self.get_at_primary::<A>(alloc, index, get, frame, room)
+        } else {
+            self.get_error::<A>(Text::Moved, frame)
+        }
+    }
+
+    /// Answers a get at a partition with a fallback: at that, or at the primary where it is closed.
+    fn get_at_diverted<A: GetAnswer>(
+        &mut self,
+        alloc: Global,
+        index: usize,
+        fallback: &Fallback,
+        get: &GetAsk,
+        frame: &mut A::Frame,
+        room: &mut A::Room,
+    ) -> A
+        requires within { index < 2 ^ self.old.shared.index_bits }
+        requires diverted { slice_get self.old.shared.fallbacks index
+            ≡ Some (Some fallback.now) }
+        requires new { IsFallback self.old.shared.run index fallback.now }
+        requires free { A.is_free frame.old }
+        ensures answers { AtDiverted index self.old (A.reply result) self.new
+            (Gets get.now) (GetsOpen get.now) }
+        ensures put { A.is_put result frame.new }
+    {
+        match self.get_at_fallback::<A>(alloc, index, fallback, get, frame, room) {
+            Ok(reply) => reply,
+            Err(number) => self.get_returned::<A>(alloc, index, number, get, frame, room),
+        }
+    }
+
+    /// Answers a get, at the primary of a partition that has no fallback.
+    #[inline(always)]
+    pub(crate) fn get<A: GetAnswer>(
+        &mut self,
+        alloc: Global,
+        index: usize,
+        get: &GetAsk,
+        frame: &mut A::Frame,
+        room: &mut A::Room,
+    ) -> A
+        requires within { index < 2 ^ self.old.shared.index_bits }
+        requires free { A.is_free frame.old }
+        ensures answers { AnswersAtPartition index self.old (A.reply result) self.new
+            (Gets get.now) (GetsOpen get.now) }
+        ensures put { A.is_put result frame.new }
+    {
+        let shared = self.shared;
+        match shared.handoff.fallback(index) {
+            None => self.get_at_primary::<A>(alloc, index, get, frame, room),
+            Some(fallback) => {
+                self.get_at_diverted::<A>(alloc, index, fallback, get, frame, room)
+            }
+        }
+    }
+}
