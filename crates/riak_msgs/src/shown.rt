@@ -75,11 +75,7 @@ pub struct ShownSibling<'a> {
 
 /// Encodes a content as a reply shows it, without its value where it is to be bare.
 #[inline(always)]
-fn encode_shown<O: Output>(
-    out: &mut O,
-    content: &Content,
-    is_bare: bool,
-) -> Result<(), AllocError>
+fn encode_shown<O: Output>(out: &mut O, content: &Content, is_bare: bool) -> Result<(), AllocError>
     ensures { OnOk result
         (O.appends out.old (shown_message (shown is_bare (Some content.now))) out.new) }
 {

@@ -22,7 +22,9 @@ use std::marker::Model;
 const CONTEXT_VERSION: &[u8] = &[2];
 
 /// The field of a context of one pair, but for the pair: its key, its length, and the context's first byte.
-const PAIR_FIELD: [u8; 23] = [18, 21, 2, 0, 0, 0, 0, 0, 0, 0, 0, 0, 0, 0, 0, 0, 0, 0, 0, 0, 0, 0, 0];
+const PAIR_FIELD: [u8; 23] = [
+    18, 21, 2, 0, 0, 0, 0, 0, 0, 0, 0, 0, 0, 0, 0, 0, 0, 0, 0, 0, 0, 0, 0,
+];
 
 /// The reply to a get, of which nothing is copied: it is encoded from where the siblings and the clock of the key lie. Contracts see the
 /// reply.
