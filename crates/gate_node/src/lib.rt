@@ -43,8 +43,8 @@
 //! ```
 //!
 //! What it costs: a request waits while another thread has its vnode's state in hand, and while another counts. What is
-//! answered lies between the taking and the giving back of a right, and so a get copies its reply while other readers may
-//! be in. Memory is taken by the vnode, by what a thread keeps back ([`Reserve`]), by
+//! answered lies between the taking and the giving back of a right, and so the frame of a get's reply is written from where the key lies
+//! while other readers may be in, and no writer. Memory is taken by the vnode, by what a thread keeps back ([`Reserve`]), by
 //! `PartitionCache::new`, and by `Shared::new`, `Passes::new` and `tallies_of`. The partition of a key costs its digest, or a look at what the thread
 //! remembers ([`PartitionCache`]), a tenth of that. Where nothing is diverted a request looks at one
 //! word more, whether its partition has a fallback, and a caller's passes have a place for the pass of each partition's fallback. After
