@@ -1,4 +1,4 @@
-use Rattle.std.proofs.Common.{ap}
+use Rattle.std.proofs.Common.{◌∙◌, Some, ap}
 use Rattle.node_commands.proofs.Sources.{gives_for, new_for, gave_just}
 use Rattle.node_commands.proofs.serving.serve_over.Goals as goal
 
@@ -13,7 +13,7 @@ returns-in-Ok-run_with g c =
     let last = c.run_with.new.jobs in
     record {
       jobs = all.0;
-      count = gave_just first all.0 last c.args.connections (ap (λ v. v.limit) is) (ap (λ v. v.counts_refused) is) (ap (λ v. v.can_stop) is) (ap (λ v. v.given) is) all.1;
+      count = gave_just first all.0 last c.args.connections (ap (λ v. v.limit) is ∙ ap Some c.from.ensures) (ap (λ v. v.counts_refused) is) (ap (λ v. v.can_stop) is) (ap (λ v. v.given) is) all.1;
       new = new_for first c.args.shared.now (ap (λ v. v.gates) is) all.0 last all.1;
       served = all.2;
     }
