@@ -11,7 +11,7 @@ use log::{LevelFilter, Log, Logged};
 use node_commands::{ReplyHalf, RequestHalf, Served};
 use node_session::{Ended, SessionFault};
 use std::alloc::Global;
-use std::net::{Net, TcpListener, TcpStream};
+use std::net::Net;
 use std::process::Abort;
 use std::rt::Clock;
 use std::sync::Wait;
@@ -325,46 +325,27 @@ fn serves<R: Log + Clock + Net + Threads + Wait + Sync>(
     }
 }
 
-/// Whether a run by this listener, and its clients beside it, go as it says.
-fn goes<R: Log + Clock + Net<Stream = TcpStream> + Threads + Wait + Sync>(
-    rt: &R,
-    alloc: Global,
-    listener: TcpListener,
-    port: u16,
-    run: &Run,
-) -> bool {
-    let accepts = AtomicU32::new(0);
-    let failing = Failing {
-        listener,
-        failures: run.failures,
-        accepts: &accepts,
-    };
-    let (is_served, are_steps_taken) = thread::join(
-        rt,
-        || serves(rt, alloc, failing, port, run),
-        || {
-            let has_ended = AtomicBool::new(false);
-            take_all(rt, alloc, port, &Ports::new(), &has_ended, run.steps)
-        },
-    );
-    is_served && are_steps_taken
-}
-
-/// The same by a new listener.
-fn goes_anew<R>(rt: &R, alloc: Global, run: &Run) -> bool
-where
-    R: Log + Clock + Net<Listener = TcpListener, Stream = TcpStream> + Threads + Wait + Sync,
-{
-    match listen(rt) {
-        Some((listener, port)) => goes(rt, alloc, listener, port, run),
-        None => false,
-    }
-}
-
+// The threads are started in the test itself: both use the network, and of any runtime it isn't known that another thread may.
 #[test]
 fn connections_are_served(rt: HostRuntime) {
-    let quiet = Logged::new(rt, LevelFilter::Off, Console(rt));
     for run in RUNS {
-        assert!(rt; goes_anew(&quiet, rt.alloc(), run), "{}", run.shows);
+        let Some((listener, port)) = listen(&rt) else {
+            panic!(rt; "no listener");
+        };
+        let quiet = Logged::new(rt, LevelFilter::Off, Console(rt));
+        let accepts = AtomicU32::new(0);
+        let failing = Failing {
+            listener,
+            failures: run.failures,
+            accepts: &accepts,
+        };
+        let ports = Ports::new();
+        let has_ended = AtomicBool::new(false);
+        let (is_served, are_steps_taken) = thread::join(
+            &rt,
+            || serves(&quiet, rt.alloc(), failing, port, run),
+            || take_all(&rt, rt.alloc(), port, &ports, &has_ended, run.steps),
+        );
+        assert!(rt; is_served && are_steps_taken, "{}", run.shows);
     }
 }
