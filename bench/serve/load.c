@@ -3,7 +3,7 @@
 //   load riak|redis PORT PID get|put|update|new|come KEYS CONNECTIONS DEPTH SECONDS
 //
 // Each connection has a thread of its own. It sends DEPTH requests in one write and reads their replies, again and again. With KEYS 1
-// all connections ask for one key, else each has KEYS keys of its own. Values have 100 bytes. A put carries the context that this
+// all connections ask for one key, else each has KEYS keys of its own. Values have 100 bytes, or VALUE of the environment. A put carries the context that this
 // connection was shown last for that key, and asks for the new one; an update is a get and a put by the context that it showed. A new key is
 // put once; what comes and goes is put, and deleted by the context that the put showed.
 // Prints requests a second, the processor time that process PID used a request, and how many replies were errors.
@@ -20,7 +20,7 @@
 #include <time.h>
 #include <unistd.h>
 
-enum { VALUE = 100, MAX_CONTEXT = 1281, BUFFER = 1 << 20 }; // a context: its version, and 64 entries of 20 bytes at most
+enum { MAX_CONTEXT = 1281 }; // its version, and 64 entries of 20 bytes at most
 enum operation { GET, PUT, UPDATE, NEW, COME };
 enum ask { ASK_GET, ASK_PUT, ASK_DELETE };
 static const char *const operations[] = {"get", "put", "update", "new", "come"};
@@ -39,7 +39,9 @@ struct connection {
     size_t read, used;
 };
 
-static int is_redis, port, keys, connections, depth;
+static int is_redis, port, keys, connections, depth, value_len = 100;
+static uint8_t *value;
+static size_t buffer_len;
 static enum operation operation;
 static atomic_int is_over;
 static pthread_barrier_t begin, end;
@@ -67,12 +69,15 @@ static double processor_time(int pid) {
     return (double)(user + system) / (double)sysconf(_SC_CLK_TCK);
 }
 
-static uint8_t *field(uint8_t *to, int number, const void *bytes, int length) {
+static uint8_t *head(uint8_t *to, int number, int length) {
     *to++ = (uint8_t)(number << 3 | 2);
-    if (length >= 128) *to++ = (uint8_t)(length & 127) | 128;
-    *to++ = (uint8_t)(length >= 128 ? length >> 7 : length);
-    memcpy(to, bytes, (size_t)length);
-    return to + length;
+    for (; length >= 128; length >>= 7) *to++ = (uint8_t)((length & 127) | 128);
+    *to++ = (uint8_t)length;
+    return to;
+}
+
+static uint8_t *field(uint8_t *to, int number, const void *bytes, int length) {
+    return (uint8_t *)memcpy(head(to, number, length), bytes, (size_t)length) + length;
 }
 
 static int key_name(struct connection *c, int key, char *name) {
@@ -84,20 +89,21 @@ static int key_name(struct connection *c, int key, char *name) {
 static uint8_t *request(struct connection *c, uint8_t *to, enum ask ask, int key) {
     static const char *const words[] = {"GET", "SET", "DEL"};
     static const uint8_t codes[] = {9, 11, 13};
-    char name[32], value[VALUE];
+    char name[32];
     int length = key_name(c, key, name);
-    memset(value, 'v', VALUE);
     if (is_redis) {
         if (ask != ASK_PUT) return to + sprintf((char *)to, "*2\r\n$3\r\n%s\r\n$%d\r\n%s\r\n", words[ask], length, name);
-        return to + sprintf((char *)to, "*3\r\n$3\r\nSET\r\n$%d\r\n%s\r\n$%d\r\n%.*s\r\n", length, name, VALUE, VALUE, value);
+        to += sprintf((char *)to, "*3\r\n$3\r\nSET\r\n$%d\r\n%s\r\n$%d\r\n", length, name, value_len);
+        return (uint8_t *)memcpy((uint8_t *)memcpy(to, value, (size_t)value_len) + value_len, "\r\n", 2) + 2;
     }
-    uint8_t *body = to + 5, content[VALUE + 8];
+    uint8_t *body = to + 5, content[8];
     body = field(body, 1, "b", 1);
     body = field(body, 2, name, length);
     struct context *context = &c->contexts[key];
     if (ask != ASK_GET && operation != NEW && context->length) body = field(body, ask == ASK_PUT ? 3 : 4, context->bytes, context->length);
     if (ask == ASK_PUT) {
-        body = field(body, 4, content, (int)(field(content, 1, value, VALUE) - content));
+        body = head(body, 4, (int)(head(content, 1, value_len) - content) + value_len);
+        body = field(body, 1, value, value_len);
         *body++ = 11 << 3;
         *body++ = 1;
     }
@@ -113,7 +119,7 @@ static void fill(struct connection *c) {
         c->read -= c->used;
         c->used = 0;
     }
-    ssize_t n = recv(c->socket, c->in + c->read, BUFFER - c->read, 0);
+    ssize_t n = recv(c->socket, c->in + c->read, buffer_len - c->read, 0);
     if (n <= 0) stop("recv");
     c->read += (size_t)n;
 }
@@ -154,7 +160,7 @@ static int reply(struct connection *c, int key) {
     uint32_t size;
     memcpy(&size, c->in + c->used, 4);
     size = ntohl(size);
-    if (size + 4 > BUFFER) stop("reply too long");
+    if (size + 4 > buffer_len) stop("reply too long");
     while (c->read - c->used < size + 4) fill(c);
     uint8_t *from = c->in + c->used;
     c->used += size + 4;
@@ -186,8 +192,8 @@ static void open_connection(struct connection *c) {
     c->socket = socket(AF_INET, SOCK_STREAM, 0);
     if (connect(c->socket, (struct sockaddr *)&address, sizeof address)) stop("connect");
     setsockopt(c->socket, IPPROTO_TCP, TCP_NODELAY, &one, sizeof one);
-    c->out = malloc(BUFFER);
-    c->in = malloc(BUFFER);
+    c->out = malloc(buffer_len);
+    c->in = malloc(buffer_len);
     c->contexts = calloc((size_t)keys, sizeof *c->contexts);
     for (int i = 0; i < keys; i++) c->contexts[i].bytes = malloc(MAX_CONTEXT);
 }
@@ -225,6 +231,9 @@ int main(int count, char **words) {
     connections = atoi(words[6]);
     depth = atoi(words[7]);
     double seconds = atof(words[8]);
+    if (getenv("VALUE")) value_len = atoi(getenv("VALUE"));
+    value = memset(malloc((size_t)value_len), 'v', (size_t)value_len);
+    buffer_len = (size_t)depth * ((size_t)value_len + MAX_CONTEXT + 128) + (1 << 20);
     struct connection *all = calloc((size_t)connections, sizeof *all);
     pthread_barrier_init(&begin, NULL, (unsigned)connections + 1);
     pthread_barrier_init(&end, NULL, (unsigned)connections + 1);

@@ -1,12 +1,14 @@
 // A load on a key-value server over loopback from few threads: many connections, each with so many requests in flight, beside idle ones.
 //
-//   many riak|redis PORT PID get|put CONNECTIONS IDLE DEPTH SECONDS
+//   many riak|redis PORT PID get|put CONNECTIONS IDLE DEPTH SECONDS [RATE]
 //
 // Every connection first sends 800 pings at once and reads their replies; the idle ones then stay silent. A busy one has DEPTH keys of its own,
 // with values of 100 bytes. It sends DEPTH requests in one write, one for each key, reads their replies, and goes on; a put carries the context
-// that the one before it showed. Prints requests a second, the processor time that process PID used a request, the median and the 99th
-// percentile of the time from that write to a reply, in microseconds, how many bytes of memory the process took for each connection once all
-// had had their pings, and how many replies were errors.
+// that the one before it showed. With a RATE, so many requests a second in all are due at equal distances, one after another on all connections, each
+// for the next of the connection's DEPTH keys, however late the replies are; the time of a request then counts from when it was due, so that who is
+// slow for a while pays for all that was due meanwhile. Prints requests a second, the processor time that process PID used a request, the median,
+// the 99th and the 99.9th percentile of the time from that write, or from when it was due, to a reply, in microseconds, how many bytes of memory the
+// process took for each connection once all had had their pings, and how many replies were errors.
 #include <arpa/inet.h>
 #include <errno.h>
 #include <netinet/in.h>
@@ -22,11 +24,12 @@
 #include <time.h>
 #include <unistd.h>
 
-enum { THREADS = 2, VALUE = 100, MAX_CONTEXT = 64, MAX_DEPTH = 64, BUFFER = 16384, PINGS = 800, BUCKETS = 1024, EVENTS = 256 };
+enum { THREADS = 2, VALUE = 100, MAX_CONTEXT = 64, MAX_DEPTH = 64, BUFFER = 16384, PINGS = 800, BUCKETS = 1024, EVENTS = 256, MAX_DUE = 16384 };
 
 struct connection {
     int number, socket, waiting;
-    double sent;
+    uint64_t asked, answered;
+    double sent, *due; // due: of the requests that wait for a reply, where there is a rate
     uint8_t *in;
     size_t read;
     uint8_t context_length[MAX_DEPTH], contexts[MAX_DEPTH][MAX_CONTEXT];
@@ -36,10 +39,11 @@ struct worker {
     pthread_t thread;
     struct connection **busy;
     int count, poll;
-    uint64_t requests, errors, slower[BUCKETS];
+    uint64_t turn, requests, errors, slower[BUCKETS];
 };
 
 static int is_redis, is_put, port, depth;
+static double rate;
 static atomic_int is_over;
 static pthread_barrier_t begin;
 
@@ -163,13 +167,15 @@ static void keep_context(struct connection *c, int key, const uint8_t *at, const
 
 static void take_replies(struct worker *w, struct connection *c) {
     size_t used = 0, length;
-    double took = now() - c->sent;
+    double at = now();
     while (c->waiting && (length = reply_length(c->in + used, c->read - used))) {
         const uint8_t *from = c->in + used;
+        int key = rate > 0 ? (int)(c->answered % (uint64_t)depth) : depth - c->waiting;
         w->errors += is_redis ? *from == '-' : from[4] == 0;
-        if (!is_redis && is_put) keep_context(c, depth - c->waiting, from + 5, from + length);
+        if (!is_redis && is_put) keep_context(c, key, from + 5, from + length);
         w->requests++;
-        w->slower[bucket(took)]++;
+        w->slower[bucket(at - (rate > 0 ? c->due[c->answered % MAX_DUE] : c->sent))]++;
+        c->answered++;
         c->waiting--;
         used += length;
     }
@@ -177,13 +183,30 @@ static void take_replies(struct worker *w, struct connection *c) {
     c->read -= used;
 }
 
+static void send_due(struct connection *c, double due) {
+    uint8_t out[256];
+    if (c->waiting == MAX_DUE) stop("too many requests wait");
+    c->due[c->asked % MAX_DUE] = due;
+    uint8_t *to = request(c, out, (int)(c->asked++ % (uint64_t)depth));
+    c->waiting++;
+    send_all(c, out, to);
+}
+
+// Sends what is due by now, and says when the next request is.
+static double send_all_due(struct worker *w, double next) {
+    for (double at = now(); next <= at; next += THREADS / rate) send_due(w->busy[w->turn++ % (uint64_t)w->count], next);
+    return next;
+}
+
 static void *run(void *argument) {
     struct worker *w = argument;
     struct epoll_event events[EVENTS];
     pthread_barrier_wait(&begin);
-    for (int i = 0; i < w->count; i++) send_requests(w->busy[i]);
+    double next = now();
+    for (int i = 0; rate == 0 && i < w->count; i++) send_requests(w->busy[i]);
     while (!atomic_load_explicit(&is_over, memory_order_relaxed)) {
-        int count = epoll_wait(w->poll, events, EVENTS, 10);
+        if (rate > 0) next = send_all_due(w, next);
+        int count = epoll_wait(w->poll, events, EVENTS, rate > 0 ? 0 : 10);
         for (int i = 0; i < count; i++) {
             struct connection *c = events[i].data.ptr;
             ssize_t n = recv(c->socket, c->in + c->read, BUFFER - c->read, MSG_DONTWAIT);
@@ -191,7 +214,7 @@ static void *run(void *argument) {
             if (n <= 0) stop("recv");
             c->read += (size_t)n;
             take_replies(w, c);
-            if (!c->waiting) send_requests(c);
+            if (rate == 0 && !c->waiting) send_requests(c);
         }
     }
     return NULL;
@@ -230,8 +253,8 @@ static double percentile(const uint64_t *slower, uint64_t all, double part) {
 }
 
 int main(int count, char **words) {
-    if (count != 9) {
-        fprintf(stderr, "many riak|redis PORT PID get|put CONNECTIONS IDLE DEPTH SECONDS\n");
+    if (count != 9 && count != 10) {
+        fprintf(stderr, "many riak|redis PORT PID get|put CONNECTIONS IDLE DEPTH SECONDS [RATE]\n");
         return 2;
     }
     is_redis = !strcmp(words[1], "redis");
@@ -241,6 +264,7 @@ int main(int count, char **words) {
     int connections = atoi(words[5]), idle = atoi(words[6]), all = connections + idle;
     depth = atoi(words[7]);
     double seconds = atof(words[8]), memory = resident(pid);
+    rate = count == 10 ? atof(words[9]) : 0;
     struct connection *each = calloc((size_t)all, sizeof *each);
     for (int i = 0; i < all; i++) {
         open_connection(&each[i], i);
@@ -257,6 +281,7 @@ int main(int count, char **words) {
         struct worker *w = &workers[i % THREADS];
         struct epoll_event event = {.events = EPOLLIN, .data.ptr = &each[i]};
         each[i].in = malloc(BUFFER);
+        each[i].due = rate > 0 ? calloc(MAX_DUE, sizeof(double)) : NULL;
         epoll_ctl(w->poll, EPOLL_CTL_ADD, each[i].socket, &event);
         w->busy[w->count++] = &each[i];
     }
@@ -275,7 +300,7 @@ int main(int count, char **words) {
         errors += workers[i].errors;
         for (int k = 0; k < BUCKETS; k++) slower[k] += workers[i].slower[k];
     }
-    printf("%10.0f %8.2f %8.0f %8.0f %9.0f %7lu\n", (double)requests / took, used / (double)requests * 1e6, percentile(slower, requests, 0.5),
-           percentile(slower, requests, 0.99), memory, errors);
+    printf("%10.0f %8.2f %8.0f %8.0f %8.0f %9.0f %7lu\n", (double)requests / took, used / (double)requests * 1e6, percentile(slower, requests, 0.5),
+           percentile(slower, requests, 0.99), percentile(slower, requests, 0.999), memory, errors);
     return 0;
 }

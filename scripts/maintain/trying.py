@@ -120,9 +120,12 @@ class Node:
         return resident(self.process.pid)
 
     def ended(self):
-        """The status and the line of totals, once it has ended by itself."""
+        """The status and the line of totals, once it has ended by itself; the status of a kill, where it doesn't."""
+        kills = threading.Timer(SECONDS, self.process.kill)
+        kills.start()
         text = self.process.stdout.read().decode().strip()
         status = self.process.wait(SECONDS)
+        kills.cancel()
         if self.reader.ident:
             self.reader.join(SECONDS)
         return status, text

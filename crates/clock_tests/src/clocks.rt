@@ -36,13 +36,22 @@ fn allocates_after(alloc: Global, steps: &[Step]) -> bool {
     takes_all(&mut clock, steps) && Vec::<u8>::with_capacity(alloc, 1).is_ok()
 }
 
-const EVENTS: &[Step] = &[Event(B, b'p'), Event(A, b'v'), Event(A, b'w')];
+const EVENTS: &[Step] = &[Event(A, b'v'), Event(A, b'w')];
 
-// Two values of one actor and one of another have places in the clock. So where the first allocation of this test is refused,
-// it is the one that is made at the end, and the test fails.
+// Two values of one actor have places in the clock. So where the first allocation of this test is refused, it is the one
+// that is made at the end, and the test fails.
 #[test]
-fn a_clock_of_two_actors_takes_no_memory(rt: HostRuntime) {
+fn a_clock_of_one_actor_takes_no_memory(rt: HostRuntime) {
     assert!(rt; allocates_after(rt.alloc(), EVENTS));
+}
+
+const OF_TWO: &[Step] = &[Event(B, b'p'), Event(A, b'v'), Event(A, b'w')];
+
+// One allocation is the room of a second actor's entry. So where the second of this test is refused, it is the one that is
+// made at the end, and the test fails; where the first is, the room is made again.
+#[test]
+fn a_second_actor_takes_memory_once(rt: HostRuntime) {
+    assert!(rt; allocates_after(rt.alloc(), OF_TWO));
 }
 
 const OVERWRITE: &[Step] = &[Event(A, b'v'), Event(A, b'w'), Overwrite(A, b't')];

@@ -1,136 +1,15 @@
 //! Places of keys in more than one bucket type and bucket, each call tried again where memory is refused.
 
+mod keys;
+
+use crate::places::keys::{
+    ALL_LONG, BUCKET_OF_15, BUCKET_OF_16, EXCHANGED, KEY_OF_15, KEY_OF_16, KEY_WITH_ZERO, KEYS,
+    LONG_BUCKET, LONG_KEY, LONG_TYPE, LONGER_KEY, Names, OTHER_BUCKET, OTHER_KEY, OTHER_TYPE,
+    OTHERS, Places, SHORT,
+};
 use clock_store::{FoundKey, KeyRef, PlaceMap};
 use riak_msgs::{BucketType, Bytes, Key};
 use std::alloc::{AllocError, Global};
-
-/// A name of more than 16 bytes: a copy of it takes memory.
-const LONG: &[u8] = b"a name of more than sixteen bytes";
-
-/// Another, whose first bytes are those of [`LONG`].
-const LONGER: &[u8] = b"a name of more than sixteen bytes, and longer";
-
-/// The first 15 bytes of [`LONG`].
-const FIFTEEN: &[u8] = b"a name of more ";
-
-/// The first 16.
-const SIXTEEN: &[u8] = b"a name of more t";
-
-/// The names of a key.
-struct Names {
-    bucket_type: &'static [u8],
-    bucket: &'static [u8],
-    key: &'static [u8],
-}
-
-/// The keys that the tests insert.
-const SHORT: &Names = &Names {
-    bucket_type: b"default",
-    bucket: b"b",
-    key: b"k",
-};
-
-const LONG_KEY: &Names = &Names {
-    bucket_type: b"default",
-    bucket: b"b",
-    key: LONG,
-};
-
-const LONG_BUCKET: &Names = &Names {
-    bucket_type: b"default",
-    bucket: LONG,
-    key: b"k",
-};
-
-const LONG_TYPE: &Names = &Names {
-    bucket_type: LONG,
-    bucket: b"b",
-    key: b"k",
-};
-
-const ALL_LONG: &Names = &Names {
-    bucket_type: LONG,
-    bucket: LONGER,
-    key: LONG,
-};
-
-const LONGER_KEY: &Names = &Names {
-    bucket_type: LONG,
-    bucket: LONGER,
-    key: LONGER,
-};
-
-// Keys whose names are as long as a name of two numbers, longer by one byte, and longer by a zero byte than that of another key.
-const KEY_OF_15: &Names = &Names {
-    bucket_type: b"default",
-    bucket: b"b",
-    key: FIFTEEN,
-};
-
-const KEY_OF_16: &Names = &Names {
-    bucket_type: b"default",
-    bucket: b"b",
-    key: SIXTEEN,
-};
-
-const KEY_WITH_ZERO: &Names = &Names {
-    bucket_type: b"default",
-    bucket: b"b",
-    key: b"k\0",
-};
-
-const BUCKET_OF_15: &Names = &Names {
-    bucket_type: b"default",
-    bucket: FIFTEEN,
-    key: b"k",
-};
-
-const BUCKET_OF_16: &Names = &Names {
-    bucket_type: b"default",
-    bucket: SIXTEEN,
-    key: b"k",
-};
-
-/// The keys that the tests insert, in the order of [`Places`].
-const KEYS: &[&Names] = &[
-    SHORT,
-    LONG_KEY,
-    LONG_BUCKET,
-    LONG_TYPE,
-    ALL_LONG,
-    LONGER_KEY,
-];
-
-/// The place of each of [`KEYS`].
-type Places = [Option<usize>; 6];
-
-const OTHER_KEY: &Names = &Names {
-    bucket_type: b"default",
-    bucket: b"b",
-    key: LONGER,
-};
-
-const OTHER_BUCKET: &Names = &Names {
-    bucket_type: b"default",
-    bucket: LONGER,
-    key: b"k",
-};
-
-const OTHER_TYPE: &Names = &Names {
-    bucket_type: LONGER,
-    bucket: b"b",
-    key: b"k",
-};
-
-const EXCHANGED: &Names = &Names {
-    bucket_type: b"default",
-    bucket: b"k",
-    key: b"b",
-};
-
-/// Keys that the tests never insert: one of another key, one of another bucket, one of another bucket type, and one whose
-/// bucket and key are exchanged.
-const OTHERS: &[&Names] = &[OTHER_KEY, OTHER_BUCKET, OTHER_TYPE, EXCHANGED];
 
 /// What is done to a map, and what comes of it.
 enum Step {

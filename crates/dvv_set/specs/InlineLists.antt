@@ -5,5 +5,5 @@ use Rattle.smallvec.specs.SmallVec.{SmallVec, with_item}
 use Rattle.dvv_set.specs.contracts.inline.InlineList.{the_row}
 
 -- the item at an index is the last that was written through r; at `None` the list stays as it is
-abbrev pub LendsItem : (T : RattleType) → MutBor (SmallVec T.Denot) → ℕ → Option (MutBor T.Denot) → Fml
-LendsItem T list at r = LendsIf (the_row T) T list r (with_item list.now at) list.now
+abbrev pub LendsItem : (T N : RattleType) → MutBor (SmallVec T.Denot) → ℕ → Option (MutBor T.Denot) → Fml
+LendsItem T N list at r = LendsIf (the_row T N) T list r (with_item list.now at) list.now

@@ -3,14 +3,14 @@
 ghost use Rattle.std.specs.Prelude.{◌≡◌, ◌<◌, ◌≤◌, ◌↔◌, [], true, false, length, map, OnOk, OnErr, IfOk, IfErr, None, Some, unwrap_or, nat_le};
 
 use crate::clone_value::CloneValue;
-use crate::entry::{self, Entry};
+use crate::entry::{self, Entries, Entry};
 use crate::fault::{ClockFault, Rejected};
 use crate::inline::InlineList;
 use crate::known_pairs::KnownPairs;
 use crate::needed::Needed;
-use crate::room;
 use crate::sizes::{self, Sizes};
 use crate::values::Values;
+use crate::{merging, room};
 use actor_epoch::{Actor, Context, Counter, Dot, MAX_ACTORS, MAX_COUNTER};
 use std::alloc::{AllocError, Global};
 use std::default::MadeWith;
@@ -25,7 +25,7 @@ use std::marker::Model;
 /// no value; the dots stay known, and a sync with an older copy brings none of them back. `overwrite_ready(a, y)`, after
 /// `reserve`, puts y at (a, 4) and leaves nothing else.
 pub struct Clock<V: MadeWith<Global> + Drop> {
-    entries: InlineList<Entry<V>>,
+    entries: Entries<V>,
 }
 
 /// One call at each place where one is let go.
@@ -133,7 +133,7 @@ impl<V: MadeWith<Global> + Drop> Clock<V> {
         ensures { self.new.meaning ≡ sync self.old.meaning other.meaning }
     {
         let Clock { entries } = other;
-        entry::merge_all(&mut self.entries, entries);
+        merging::merge_all(&mut self.entries, entries);
     }
 
     /// Knows what a context saw, and has none of it live: the sync with the context's pairs, none live. Refused by
@@ -152,7 +152,7 @@ impl<V: MadeWith<Global> + Drop> Clock<V> {
             return Err(fault);
         }
         let alloc = self.entries.allocator();
-        entry::merge_pairs(alloc, &mut self.entries, context.pairs());
+        merging::merge_pairs(alloc, &mut self.entries, context.pairs());
         Ok(())
     }
 
@@ -329,7 +329,7 @@ impl<V: MadeWith<Global> + Drop> Clock<V> {
             ≡ event actor value (without (pairs_of context.entry) self.old.meaning) }
     {
         let alloc = self.entries.allocator();
-        entry::merge_context(alloc, &mut self.entries, context);
+        merging::merge_context(alloc, &mut self.entries, context);
         entry::put_value(alloc, &mut self.entries, actor, value);
     }
 

@@ -1,4 +1,4 @@
-//! A list with its first two items in the value itself.
+//! A list with its first items in the value itself.
 
 ghost use Rattle.std.specs.Prelude.{◌≡◌, ◌≤◌, ◌<◌, ◌∷◌, ◌+◌, length, [], ◌++◌, ◌==◌, ◌↔◌, take, IsSome, IfSome, OnOk, get_or};
 ghost use Rattle.std.specs.List.{insert};
@@ -9,19 +9,19 @@ use std::default::MadeWith;
 use std::marker::Model;
 use std::ops::DerefSlice;
 
-/// A list that holds up to two items in place, and more in an allocation. Contracts see its items, and how many fit into
+/// A list that holds up to `N` items in place, and more in an allocation. Contracts see its items, and how many fit into
 /// the room that it has. It has no more than what a clock needs, over the kit's `SmallVec`.
-pub(crate) struct InlineList<T> {
-    content: SmallVec<T, 2>,
+pub(crate) struct InlineList<T, const N: usize> {
+    content: SmallVec<T, N>,
 }
 
-impl<T: Drop> Drop for InlineList<T> {
+impl<T: Drop, const N: usize> Drop for InlineList<T, N> {
     fn drop(self) {
         let InlineList { content: _content } = self;
     }
 }
 
-impl<T> Model for InlineList<T> {
+impl<T, const N: usize> Model for InlineList<T, N> {
     ghost use Rattle.smallvec.specs.SmallVec.{SmallVec as Items, small_vec_code};
 
     ghost Value = { Items T };
@@ -31,13 +31,13 @@ impl<T> Model for InlineList<T> {
     ghost view = { λ v. v.content };
 }
 
-impl<T> InlineList<T> {
+impl<T, const N: usize> InlineList<T, N> {
     ghost use Rattle.std.specs.Borrow.{sem};
     ghost use Rattle.dvv_set.specs.InlineLists.{LendsItem};
 
     /// The item at an index, for writing, if there is one.
     pub(crate) fn get_mut(&mut self, at: usize) -> Option<&mut T>
-        ensures* writes_back { sem 𝓛 (LendsItem T.row self.entry at result) }
+        ensures* writes_back { sem 𝓛 (LendsItem T.row N.row self.entry at result) }
         ensures variant { IsSome result ↔ (at < length self.old.items) }
         ensures value { IfSome result (λ x. x.now ≡ get_or self.old.items at x.now) }
     {
@@ -64,7 +64,7 @@ impl<T> InlineList<T> {
     }
 }
 
-impl<T> DerefSlice for InlineList<T> {
+impl<T, const N: usize> DerefSlice for InlineList<T, N> {
     type Elem = T;
 
     ghost deref_gives = { λ v xs. xs ≡ v.items };
@@ -74,11 +74,11 @@ impl<T> DerefSlice for InlineList<T> {
     }
 }
 
-impl<T: MadeWith<Global> + Drop> InlineList<T> {
+impl<T: MadeWith<Global> + Drop, const N: usize> InlineList<T, N> {
     /// An empty list, for which no memory is taken.
     pub(crate) fn new(alloc: Global) -> Self
         ensures items { result.items ≡ [] }
-        ensures capacity { result.capacity ≡ 2 }
+        ensures capacity { result.capacity ≡ N }
     {
         InlineList {
             content: SmallVec::new(alloc),

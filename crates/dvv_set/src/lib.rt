@@ -7,7 +7,7 @@
 //!
 //! Known and live dots follow the `dvvset` module of Riak without its anonymous values; `discard` is this project's name
 //! for the sync with a context's pairs that its update does first. An actor is found by a walk over the entries, 64 at
-//! most; an event moves the actor's values once. A clock holds two entries and each entry two values in place
+//! most; an event moves the actor's values once. A clock holds one entry and each entry two values in place
 //! (`InlineList`). It takes memory for more, and, to make room for a value, for one more in each entry that is full.
 //!
 //! Where a change is accepted before it is made, `uncovered`, `is_actors_full` and `needed` say how its limits stand,
@@ -30,6 +30,7 @@ mod fault;
 mod inline;
 mod known_pairs;
 mod laws;
+mod merging;
 mod needed;
 mod room;
 mod sizes;

@@ -10,9 +10,8 @@ ghost use Rattle.dvv_set.specs.Held.{pairs_of, actors_after, counter_before};
 ghost use Rattle.dvv_set.specs.ClockEntries.{AreEntries, known_of, entries_of_pairs, count_new, count_uncovered, newer};
 ghost use Rattle.dvv_set.specs.Stored.{actor_of, clock_entry, clock_entries};
 
-use crate::entry::{Entry, Place, has, last_counter, search_actor};
+use crate::entry::{Entries, Entry, Place, has, last_counter, search_actor};
 use crate::fault::ClockFault;
-use crate::inline::InlineList;
 use actor_epoch::{Actor, Context, ContextPairs, Counter, MAX_ACTORS, MAX_COUNTER};
 use std::alloc::Global;
 use std::default::MadeWith;
@@ -197,7 +196,7 @@ fn newer<V>(entry: &Entry<V>, context: Option<&Context<'_>>) -> usize
 
 /// Makes room for more entries, which are refused past 64.
 pub(crate) fn reserve_actors<V: MadeWith<Global> + Drop>(
-    entries: &mut InlineList<Entry<V>>,
+    entries: &mut Entries<V>,
     more: usize,
 ) -> Result<(), ClockFault>
     requires few { length entries.old.items ≤ 64 }

@@ -1,6 +1,8 @@
 //! A node over the gates of a run.
-ghost use Rattle.std.specs.Prelude.{◌≡◌, ◌<◌, ◌^◌, Some, IfOk, IfErr, false, true, nat_le, slice_get};
+ghost use Rattle.std.specs.Prelude.{◌≡◌, ◌<◌, ◌^◌, ◌⊎◌, Some, IfOk, IfErr, false, true, nat_le, slice_get};
 ghost use Rattle.handoff.specs.Partitions.{IsFallback};
+ghost use Rattle.stats_book.specs.Counting.{ArePastFull, zeros};
+ghost use Rattle.stats_book.specs.Holdings.{AllAre};
 ghost use Rattle.gate_node.specs.Asked.{Changes, ChangesOpen};
 ghost use Rattle.gate_node.specs.GateStep.{AtIndex, AtClosed, LooksAtPrimary, AtIndexFrom};
 ghost use Rattle.gate_node.specs.GateStep.{AnswersError, AsksFallback, AtDiverted, AnswersAtPartition, events_seen};
@@ -129,6 +131,10 @@ impl<'a, W: Wait, T: Turnstile, G: Ledger, P: Ledger, D: Ledger, E: Ledger, R: L
         ensures passes { result.1 ≡ self.entry.passes }
         ensures gates { ArePassesOf self.entry.shared result.1 }
         ensures full { self.entry.count.book_full ≡ true → result.2 ≡ true }
+
+        // Where the book has no other share, it has room for all that this one may count.
+        ensures sole { AllAre 1 G.parts P.parts D.parts E.parts R.parts → result.2 ≡ true
+            → (self.entry.count.book_full ≡ true) ⊎ ArePastFull zeros self.entry.count.counted }
     {
         let GateNode {
             rt,

@@ -1,24 +1,30 @@
 -- Copies that a pass published stay what they are.
-use Rattle.std.proofs.Common.{◌≡◌, ◌∙◌, ◌+◌, ◌≤◌, ℕ, List, [], ◌∷◌, ◌++◌, length, length-append, sym, ap, subst, arith}
-use Rattle.std.specs.Prelude.{Option, Some, None, IfNone, IfOk, IfSome, Result, Ok, Err, slice_get}
-use Rattle.std.proofs.lemmas.List.Elements.{All-weaker, All-push}
+use Rattle.std.proofs.Common.{◌≡◌, ◌∙◌, ◌+◌, ◌≤◌, ℕ, List, [], ◌∷◌, ◌++◌, length, length-append, refl, sym, ap, subst, arith}
+use Rattle.std.specs.Prelude.{◌⊎◌, Option, Some, None, IfNone, IfOk, IfSome, IsSome, IsTrue, Result, Ok, Err, slice_get}
+use Rattle.std.proofs.lemmas.List.{append-nil}
+use Rattle.std.proofs.lemmas.List.Elements.{All-nil, All-weaker, All-push}
 use mathlib.Core.List.{IsPrefix}
+use mathlib.Core.Logic.{inl, inr}
 use Rattle.riak_msgs.specs.declared.Key.{Key}
+use Rattle.riak_msgs.specs.Contents.{Content}
+use Rattle.vnode_machine.specs.Copying.{is_stuck}
+use Rattle.vnode_machine.specs.Machine.{State, Stored, stored}
+use Rattle.vnode_core.specs.declared.ask.Answer.{Answer}
 use Rattle.rw_gate.specs.Views.{GateId}
 use Rattle.rw_gate.proofs.Prefixes.{prefix_length, prefix_trans}
 use Rattle.vnode_core.specs.declared.ask.Ask.TheVariants as asks
 use Rattle.vnode_core.specs.declared.entry.Entry.{Entry}
 use Rattle.vnode_core.specs.declared.entry.Entry.TheVariants as entries
 use Rattle.vnode_core.specs.declared.event.VnodeEvent.TheVariants as events
-use Rattle.vnode_core.specs.Events.{EntryAsks}
+use Rattle.vnode_core.specs.Events.{EntryAsks, commands_of}
 use Rattle.vnode_core.specs.KeyCopies.{KeyCopyView}
-use Rattle.vnode_core.specs.Plans.{View}
+use Rattle.vnode_core.specs.Plans.{IsAnsweredUnchanged, View}
 use Rattle.ghost_state.proofs.Lists.{get-before, get-last}
-use Rattle.handoff.specs.declared.copying.Step.{Step}
+use Rattle.handoff.specs.declared.copy_step.Step.{Step}
 use Rattle.handoff.specs.declared.fault.Stop.{Stop}
-use Rattle.handoff.specs.declared.copying.Step.TheVariants.{End, Passed, Made, Stuck}
-use Rattle.handoff.specs.Copying.{IsCopyOf, HasCopyAt, AreCopies, CopiesOne, RiseBetween}
-use Rattle.handoff.specs.Sights.{Sight, LeadsVnodeTo}
+use Rattle.handoff.specs.declared.copy_step.Step.TheVariants.{End, Passed, Made, Stuck}
+use Rattle.handoff.specs.Copying.{IsCopyOf, HasCopyAt, AreCopies, CopiesOne, IsStuckOf, RiseBetween, WereTried}
+use Rattle.handoff.specs.Sights.{Sight, LeadsVnodeTo, ShowsState}
 use Rattle.handoff.specs.Steps.{CopiesOrStays}
 
 pub get_prefix : {A : Type 0} (xs ys : List A) (k : ℕ) (x : A) → IsPrefix xs ys → slice_get xs k ≡ Some x → slice_get ys k ≡ Some x
@@ -40,7 +46,73 @@ copy-more n theirs theirs' entry gate more copy = record {
   clock = copy.clock;
 }
 
+-- what a fallback holds of a key, as it is asked to be copied
+pub held-copy : (n : ℕ) (theirs : Sight) (from : State Content) (copy : KeyCopyView) (there : Stored Content) → ShowsState theirs from → from.closed ≡ None → copy.diversion ≡ n
+    → copy.prefix ≡ commands_of theirs.prefix → stored from copy.key ≡ Some there → copy.clock ≡ there.clock → IsCopyOf n theirs (entries.Copied copy)
+held-copy n theirs from copy there shows unclosed number commands held clock = record {
+  copy = copy;
+  is = refl;
+  number = number;
+  prefix = theirs.prefix;
+  begins = ([], append-nil theirs.prefix);
+  commands = commands;
+  state = from;
+  leads = shows;
+  unclosed = unclosed;
+  there = there;
+  held = held;
+  clock = clock;
+}
+
+-- a copy that was told unchanged is stuck, or the primary is closed
+pub told-stuck : (state : State Content) (copy : KeyCopyView) (answer : Answer) → IsAnsweredUnchanged state (asks.Copy copy) answer
+    → IsTrue (is_stuck state copy.key copy.clock) ⊎ IsSome state.closed
+told-stuck state copy answer (inl (opened, (is, stuck))) = inl stuck
+told-stuck state copy answer (inr (closed, is)) = inr closed
+
 -- where both passes see more
+stuck-more : (n : ℕ) (mine mine' theirs theirs' : Sight) (copy : KeyCopyView) → mine'.gate ≡ mine.gate → IsPrefix mine.prefix mine'.prefix → theirs'.gate ≡ theirs.gate
+    → IsPrefix theirs.prefix theirs'.prefix → IsStuckOf n mine theirs copy → IsStuckOf n mine' theirs' copy
+stuck-more n mine mine' theirs theirs' copy here_gate here gate there is = record {
+  of_fallback = copy-more n theirs theirs' (entries.Copied copy) gate there is.of_fallback;
+  prefix = is.prefix;
+  begins = prefix_trans is.prefix mine.prefix mine'.prefix is.begins here;
+  state = is.state;
+  leads = subst (λ (g : GateId View). LeadsVnodeTo g is.prefix is.state) (sym here_gate) is.leads;
+  stuck = is.stuck;
+}
+
+pub tried-more : (n : ℕ) (mine mine' theirs theirs' : Sight) (copied tried : ℕ) → mine'.gate ≡ mine.gate → IsPrefix mine.prefix mine'.prefix → theirs'.gate ≡ theirs.gate
+    → IsPrefix theirs.prefix theirs'.prefix → WereTried n mine theirs copied tried → WereTried n mine' theirs' copied tried
+tried-more n mine mine' theirs theirs' copied tried here_gate here gate there all = record {
+  copies = all.copies;
+  counted = all.counted;
+  stuck = All-weaker (IsStuckOf n mine theirs) (IsStuckOf n mine' theirs') (λ copy is. stuck-more n mine mine' theirs theirs' copy here_gate here gate there is) all.copies all.stuck;
+}
+
+-- none was tried
+pub tried-none : (n : ℕ) (mine theirs : Sight) → WereTried n mine theirs 0 0
+tried-none n mine theirs = record { copies = []; counted = refl; stuck = All-nil (IsStuckOf n mine theirs) }
+
+-- one more was copied
+pub tried-made : (n : ℕ) (mine theirs : Sight) (copied tried : ℕ) → WereTried n mine theirs copied tried → WereTried n mine theirs (copied + 1) (tried + 1)
+tried-made n mine theirs copied tried all =
+    let counted = all.counted in
+    record { copies = all.copies; counted = omega (arith, counted); stuck = all.stuck }
+
+-- one more was stuck
+pub tried-stuck : (n : ℕ) (old mine theirs : Sight) (step : Step) (key : Key) (copied tried : ℕ) → step ≡ Stuck key → CopiesOrStays n old mine theirs step
+    → WereTried n mine theirs copied tried → WereTried n mine theirs copied (tried + 1)
+tried-stuck n old mine theirs step key copied tried is steps all =
+    let one : CopiesOrStays n old mine theirs (Stuck key) = subst (λ s. CopiesOrStays n old mine theirs s) is steps in
+    let counted = all.counted in
+    let longer : length (all.copies ++ one.1 ∷ []) ≡ length all.copies + 1 = length-append all.copies (one.1 ∷ []) in
+    record {
+      copies = all.copies ++ one.1 ∷ [];
+      counted = omega (arith, counted, longer);
+      stuck = All-push (IsStuckOf n mine theirs) all.copies one.1 all.stuck one.2;
+    }
+
 pub copies-more : (n : ℕ) (mine mine' theirs theirs' : Sight) (positions : List ℕ) → IsPrefix mine.prefix mine'.prefix → theirs'.gate ≡ theirs.gate → IsPrefix theirs.prefix theirs'.prefix
     → AreCopies n mine theirs positions → AreCopies n mine' theirs' positions
 copies-more n mine mine' theirs theirs' positions here gate there =
@@ -70,7 +142,7 @@ pub step-copies : (n : ℕ) (old mine theirs theirs' : Sight) (step : Step) → 
     → AreCopies n old theirs old.own → CopiesOrStays n old mine theirs' step → AreCopies n mine theirs' mine.own
 step-copies n old mine theirs theirs' End gate there here all own = same-copies n old mine theirs theirs' gate there here all own
 step-copies n old mine theirs theirs' (Passed key) gate there here all own = same-copies n old mine theirs theirs' gate there here all own
-step-copies n old mine theirs theirs' (Stuck key) gate there here all own = same-copies n old mine theirs theirs' gate there here all own
+step-copies n old mine theirs theirs' (Stuck key) gate there here all own = same-copies n old mine theirs theirs' gate there here all own.0
 step-copies n old mine theirs theirs' (Made key) gate there here all one = copies-push n old mine theirs theirs' gate there all one
 
 pub made-length : (n : ℕ) (old mine theirs : Sight) (step : Step) (key : Key) → step ≡ Made key → CopiesOrStays n old mine theirs step → length mine.own ≡ length old.own + 1
@@ -82,7 +154,7 @@ made-length n old mine theirs step key is steps =
 later-step : (n : ℕ) (old mid mine theirs : Sight) (step : Step) → IsPrefix old.prefix mid.prefix → mid.own ≡ old.own → CopiesOrStays n mid mine theirs step → CopiesOrStays n old mine theirs step
 later-step n old mid mine theirs End more same steps = steps ∙ same
 later-step n old mid mine theirs (Passed key) more same steps = steps ∙ same
-later-step n old mid mine theirs (Stuck key) more same steps = steps ∙ same
+later-step n old mid mine theirs (Stuck key) more same steps = (steps.0 ∙ same, steps.1, steps.2)
 later-step n old mid mine theirs (Made key) more same one = record {
   position = one.position;
   entry = one.entry;
@@ -130,7 +202,7 @@ pub step-rises : (from n : ℕ) (old mine theirs : Sight) (step : Step) → IsPr
     → RiseBetween from mine.own (length mine.prefix)
 step-rises from n old mine theirs End here rise own = rise-stays from old mine here rise own
 step-rises from n old mine theirs (Passed key) here rise own = rise-stays from old mine here rise own
-step-rises from n old mine theirs (Stuck key) here rise own = rise-stays from old mine here rise own
+step-rises from n old mine theirs (Stuck key) here rise own = rise-stays from old mine here rise own.0
 step-rises from n old mine theirs (Made key) here rise one =
     let longer : length mine.prefix ≡ length one.position + 1 = ap length one.seen ∙ length-append one.position (one.entry ∷ []) in
     subst (λ (p : List ℕ × ℕ). RiseBetween from p.0 p.1) (λ i. (sym one.own i, sym longer i))

@@ -1,9 +1,10 @@
 -- What a copy back says across two gates.
-use Rattle.std.specs.Prelude.{◌≡◌, ◌≤◌, ◌+◌, ◌-◌, ◌^◌, ℕ, min, List, [], ◌∷◌, ◌++◌, length, All, Option, Some, None, MatchOption, slice_get}
+use Rattle.std.specs.Prelude.{◌≡◌, ◌≤◌, ◌+◌, ◌-◌, ◌^◌, ◌⊎◌, ℕ, min, List, [], ◌∷◌, ◌++◌, length, All, Option, Some, None, IsSome, IsTrue, MatchOption, slice_get}
 use mathlib.Core.List.{IsPrefix}
 use Rattle.riak_msgs.specs.Contents.{Content}
 use Rattle.rw_gate.specs.Views.{GateId}
 use Rattle.vnode_machine.specs.Machine.{State, Stored, stored}
+use Rattle.vnode_machine.specs.Copying.{is_stuck}
 use Rattle.vnode_core.specs.KeyCopies.{KeyCopyView}
 use Rattle.vnode_core.specs.declared.entry.Entry.{Entry}
 use Rattle.vnode_core.specs.declared.entry.Entry.TheVariants as entries
@@ -57,6 +58,22 @@ pub record CopiesOne (diversion : ℕ) (old mine theirs : Sight) : Type 0 where
   pub own : mine.own ≡ old.own ++ length position ∷ []
   pub copy : IsCopyOf diversion theirs entry
 
+-- the primary took no copy of a key of the fallback, at the ends of some prefixes of what both passes have seen: with it the key would have too many
+-- siblings or actors, or the primary was closed
+pub record IsStuckOf (diversion : ℕ) (mine theirs : Sight) (copy : KeyCopyView) : Type 0 where
+  pub of_fallback : IsCopyOf diversion theirs (entries.Copied copy)
+  pub prefix : List Entry
+  pub begins : IsPrefix prefix mine.prefix
+  pub state : State Content
+  pub leads : LeadsVnodeTo mine.gate prefix state
+  pub stuck : IsTrue (is_stuck state copy.key copy.clock) ⊎ IsSome state.closed
+
+-- so many keys were tried, of which so many were copied, and each other one was stuck
+pub record WereTried (diversion : ℕ) (mine theirs : Sight) (copied tried : ℕ) : Type 0 where
+  pub copies : List KeyCopyView
+  pub counted : copied + length copies ≡ tried
+  pub stuck : All (IsStuckOf diversion mine theirs) copies
+
 -- at the ends of what both passes have seen so many keys of the fallback aren't copied as they are now
 pub record CountsLeft (mine theirs : Sight) (left : ℕ) : Type 0 where
   pub primary : State Content
@@ -67,7 +84,7 @@ pub record CountsLeft (mine theirs : Sight) (left : ℕ) : Type 0 where
   pub is : left ≡ min (count_left primary fallback.keys) (2 ^ 32 - 1)
 
 -- keys were copied from this fallback to this primary, by these passes: each entry that was published at the primary is a copy, behind so many
--- entries that had been seen of it before, and nothing was published at the fallback
+-- entries that had been seen of it before, and nothing was published at the fallback; each other key that was tried was stuck
 pub record CopiesBack (primary : GateId View) (fallback : Fallback) (budget : ℕ) (copied : Copied) : Type 0 where
   pub gate : copied.primary.gate ≡ primary
   pub gate_there : copied.fallback.gate ≡ fallback.gate
@@ -76,6 +93,7 @@ pub record CopiesBack (primary : GateId View) (fallback : Fallback) (budget : �
   pub keys : copied.keys ≡ length copied.primary.own
   pub rise : RiseBetween copied.began copied.primary.own (length copied.primary.prefix)
   pub tried : copied.keys + copied.stuck ≤ budget
+  pub stuck : WereTried fallback.diversion copied.primary copied.fallback copied.keys (copied.keys + copied.stuck)
   pub left : CountsLeft copied.primary copied.fallback copied.left
 
 -- so at the partition of an index, whose fallback stands there

@@ -45,6 +45,7 @@
 //! none of these calls waits for another that waits for it.
 #![tactic(auto)]
 
+mod copy_step;
 mod copying;
 mod counting;
 mod fault;

@@ -136,8 +136,8 @@ fn take_turns<'a, S: Service, K: Sink<S> + Drop, D: Readiness<S>>(
     }
 }
 
-/// One round of a worker: it takes a task, where it is to take one, and gives each job that is ready a turn. It waits where it took none, unless it has
-/// its stop mark and no job open: then nothing would wake it. Whether it has taken its stop mark.
+/// One round of a worker: it takes a task, where it is to take one, and gives each job that is ready a turn. It waits where it took none, unless its last
+/// job has just ended, or it has its stop mark and no job open: then nothing might wake it. Whether it has taken its stop mark.
 fn work_once<'a, H, S, K, D, T>(
     rt: &T,
     alloc: Global,
@@ -162,7 +162,8 @@ where
     ensures service { desk.new.service ≡ desk.old.service }
     ensures first { desk.new.first ≡ desk.old.first }
 {
-    if !is_stopped && waits.takes(desk.is_empty()) {
+    let was_idle = desk.is_empty();
+    if !is_stopped && waits.takes(was_idle) {
         match take_task(rt, alloc, queue, pass, to_leader, desk, waits) {
             Took::Job => {
                 take_turns(alloc, desk, waits);
@@ -173,8 +174,10 @@ where
         }
     }
     take_turns(alloc, desk, waits);
+
+    // who has just become idle looks for a task first: the bell may have been rung for it long ago
     let is_idle = desk.is_empty();
-    if !is_stopped || !is_idle {
+    if !is_idle || (was_idle && !is_stopped) {
         waits.wait(rt, is_idle);
     }
     is_stopped

@@ -1,5 +1,5 @@
 -- What a run of connections leaves.
-use Rattle.std.specs.Prelude.{◌≡◌, ◌+◌, ◌^◌, ℕ, List, None, length}
+use Rattle.std.specs.Prelude.{◌≡◌, ◌+◌, ◌^◌, ℕ, List, Option, Some, None, length}
 use Rattle.job_pool.specs.Lists.{Every}
 use Rattle.handoff.specs.Partitions.{AreMadeNew, AreNone}
 use Rattle.gate_node.specs.Gates.{Gates}
@@ -12,6 +12,7 @@ use Rattle.worker_pool.specs.Run.{ServesAll}
 use Rattle.worker_pool.specs.Telling.{TellsAll}
 use Rattle.socket_streams.specs.declared.halves.RequestHalf.{RequestHalf}
 use Rattle.socket_streams.specs.declared.halves.ReplyHalf.{ReplyHalf}
+use Rattle.socket_streams.specs.Sending.{written}
 use Rattle.socket_streams.specs.Arriving.{IsNewConnection}
 use Rattle.node_commands.specs.declared.serving.Settings.{Settings}
 use Rattle.node_commands.specs.declared.until.ServedUntil.{ServedUntil}
@@ -26,30 +27,34 @@ pub record IsNewRun (ring run sweep : ℕ) (gates : Gates) : Type 0 where
   pub made_new : AreMadeNew run 0 gates.gates
   pub undiverted : AreNone gates.fallbacks
 
-module _ {I O : Type 0} where
-  -- so many connections were served over these gates by so many workers; of the bytes of a socket nothing is known
-  pub record AreServed (gates : Gates) (connections workers : ℕ) (closed : Closed I O) : Type 0 where
-    pub jobs : List (Job I O)
-    pub count : length jobs ≡ connections
-    pub new : Every (IsNewConnection gates) jobs
-    pub served : ServesAll (λ _. None) (λ _. None) gates workers jobs closed
+-- what was written to a connection, of which what the system took is the beginning
+abbrev pub replies_of : ReplyHalf → Option (List ℕ)
+replies_of half = Some (written half)
 
-  -- the settings' connections were, over the gates of a new run
-  pub record AreConnectionsServed (settings : Settings) (closed : Closed I O) : Type 0 where
-    pub gates : Gates
-    pub of_run : IsNewRun settings.ring settings.run settings.sweep gates
-    pub served : AreServed gates settings.connections settings.workers closed
+-- So many connections were served over these gates by so many workers. What was written to each is the output for some input, since of the bytes
+-- that a socket gives nothing is known.
+pub record AreServed (gates : Gates) (connections workers : ℕ) (closed : Closed RequestHalf ReplyHalf) : Type 0 where
+  pub jobs : List (Job RequestHalf ReplyHalf)
+  pub count : length jobs ≡ connections
+  pub new : Every (IsNewConnection gates) jobs
+  pub served : ServesAll (λ _. None) replies_of gates workers jobs closed
+
+-- the settings' connections were, over the gates of a new run
+pub record AreConnectionsServed (settings : Settings) (closed : Closed RequestHalf ReplyHalf) : Type 0 where
+  pub gates : Gates
+  pub of_run : IsNewRun settings.ring settings.run settings.sweep gates
+  pub served : AreServed gates settings.connections settings.workers closed
 
 -- the ends of connections that a sink was told, under their numbers
 abbrev pub ToldConnections : Type 0
 ToldConnections = List (NumberedEnd (SessionEnd RequestHalf ReplyHalf))
 
--- Connections that were accepted were served over these gates, but those that were closed for want of memory; of the bytes of a socket nothing
--- is known.
+-- Connections that were accepted were served over these gates, but those that were closed for want of memory. What was written to each is the
+-- output for some input.
 pub record AreTold (gates : Gates) (served : Served ToldConnections) (connections closed : ℕ) : Type 0 where
   pub jobs : List (Job RequestHalf ReplyHalf)
   pub new : Every (IsNewConnection gates) jobs
-  pub told : TellsAll (λ _. None) (λ _. None) (λ sink. sink) gates jobs served
+  pub told : TellsAll (λ _. None) replies_of (λ sink. sink) gates jobs served
   pub counted : connections ≡ served.accepted + closed
 
 -- they were, over the gates of a new run by these settings

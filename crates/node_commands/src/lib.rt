@@ -14,8 +14,8 @@
 //! ```
 //!
 //! What it means: what a session writes is defined in `node_session`, over a node for one thread (`pipe`) or over the gates (`specs/Runs`:
-//! `IsServed`). What a socket gives or takes is unknown; a connection was served once, to its end, over the run's gates, by passes that had
-//! seen nothing.
+//! `AreServed`, `AreTold`). A connection was served once, to its end, over the run's gates, by passes that had seen nothing. What a socket
+//! gives is unknown. What was written to a connection is the replies, in order, and what the system took of that is its beginning.
 //!
 //! What it costs: what its connections cost (`socket_streams`); by [`serve_on`] the end of each besides, with its passes.
 #![tactic(auto)]

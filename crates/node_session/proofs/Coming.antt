@@ -13,7 +13,7 @@ use Rattle.node_session.specs.Session.{Given, Stops, MadeReads}
 use Rattle.node_session.specs.Sending.{Stands}
 use Rattle.node_session.specs.Nexts.{IsNextAnswered, IsBadNext, IsLost}
 use Rattle.node_session.specs.Unsent.{IsFront}
-use Rattle.node_session.specs.Views.{SessionView, IsRead, new_session}
+use Rattle.node_session.specs.Views.{SessionView, CanFollow, IsRead, new_session}
 use Rattle.node_session.proofs.SentParts.{sent_none, sent_more, sent_kept, all_sent, sent_short}
 use Rattle.node_session.proofs.Standing.{read_count, stands_none, stands_more, stands_kept, stands_same, cut_reply, cut_error, told_error, lost_reply, all_answered, none_flushed, at_end, unkept, MadeReads-none, MadeReads-piece, MadeReads-interrupted, answered_kept}
 use Rattle.node_session.specs.Courses.{HasRead, IsAnswering, IsIdle, IsSending, IsTelling, IsOverBy, Came, CanWait}
@@ -34,14 +34,14 @@ read_kept u u' u'' input made most kept p = record {
   few = p.few;
 }
 
-pub read_piece : (u u' u'' : Option (List ℕ)) (input piece : List ℕ) (made most : ℕ) → made < most → Consumes u' u'' piece → 0 < length piece → length piece ≤ 4096 → HasRead u u' input made most → HasRead u u'' (input ++ piece) (made + 1) most
-read_piece u u' u'' input piece made most more read some few p =
+pub read_piece : (u u' u'' : Option (List ℕ)) (input piece : List ℕ) (made count most : ℕ) → made + count ≤ most → Consumes u' u'' piece → count ≤ length piece → length piece ≤ 4096 * count → HasRead u u' input made most → HasRead u u'' (input ++ piece) (made + count) most
+read_piece u u' u'' input piece made count most more read some few p =
     let len : length (input ++ piece) ≡ length input + length piece = length-append input piece in
     let before : length input ≤ 4096 * made = p.bound in
     record {
       read = Consumes-trans u u' u'' input piece p.read read;
       bound = omega (arith, len, before, few);
-      tries = MadeReads-piece u u' u'' made piece p.tries read some;
+      tries = MadeReads-piece u u' u'' made count piece p.tries read some;
       within = omega (arith, more);
       few = p.few;
     }
@@ -228,17 +228,17 @@ module _ {S : Type 0} (Step : S → Request → Reply → S → Type 0) (first n
             end,
           )
 
-      module _ (more : made < most) (piece : List ℕ) (read : Consumes u' u'' piece) (some : 0 < length piece) (few : length piece ≤ 4096) where
-        pub piece_lost : IsOverBy Step first now u u'' h h' most (Err (NoMemory replies))
-        piece_lost = (
-          given u u'' (s.input ++ piece) (made + 1) most _ (read_piece u u' u'' s.input piece made most more read some few p.answering.read)
-              (unkept Step first now h h' h' s replies p.answering.stands is_read p.answering.going.counted (Keeps-refl h') piece some few p.partial),
+      module _ (count : ℕ) (more : made + count ≤ most) (piece : List ℕ) (read : Consumes u' u'' piece) (counts : count ≤ length piece) (few : length piece ≤ 4096 * count) (some : 0 < length piece) where
+        pub piece_lost : CanFollow s.rest (length piece) → IsOverBy Step first now u u'' h h' most (Err (NoMemory replies))
+        piece_lost follows = (
+          given u u'' (s.input ++ piece) (made + count) most _ (read_piece u u' u'' s.input piece made count most more read counts few p.answering.read)
+              (unkept Step first now h h' h' s replies p.answering.stands is_read p.answering.going.counted (Keeps-refl h') piece some follows p.partial),
           λ none. absurd none,
         )
 
-        pub piece_fed : (t : SessionView) → t ≡ record s { input = s.input ++ piece; rest = s.rest ++ piece } → IsAnswering Step first now u u'' h h' t replies (made + 1) most
-        piece_fed t e = subst (λ (x : SessionView). IsAnswering Step first now u u'' h h' x replies (made + 1) most) (sym e) (record {
-          read = read_piece u u' u'' s.input piece made most more read some few p.answering.read;
+        pub piece_fed : (t : SessionView) → t ≡ record s { input = s.input ++ piece; rest = s.rest ++ piece } → IsAnswering Step first now u u'' h h' t replies (made + count) most
+        piece_fed t e = subst (λ (x : SessionView). IsAnswering Step first now u u'' h h' x replies (made + count) most) (sym e) (record {
+          read = read_piece u u' u'' s.input piece made count most more read counts few p.answering.read;
           stands = stands_same Step first now h h' s (record s { input = s.input ++ piece; rest = s.rest ++ piece }) refl p.answering.stands;
           going = record { counted = p.answering.going.counted; fault = p.answering.going.fault; sent = p.answering.going.sent };
         })

@@ -1,15 +1,17 @@
 -- Frames at the front of what is left.
-use Rattle.std.proofs.Common.{◌≡◌, ℕ, ◌+◌, ◌<◌, ◌≤◌, List, [], ◌∷◌, ◌++◌, length, take, drop, refl, sym, ap, subst, ◌∙◌, append_assoc, append-nil, length-append, inl, inr, arith}
+use Rattle.std.proofs.Common.{◌≡◌, ℕ, ◌+◌, ◌-◌, ◌<◌, ◌≤◌, List, [], ◌∷◌, ◌++◌, length, take, drop, refl, sym, ap, subst, ◌∙◌, append_assoc, append-nil, length-append, inl, inr, arith}
 use Rattle.std.specs.List.{flat_map, All}
 use Rattle.std.proofs.lemmas.Bool.{cases_lt}
-use Rattle.std.proofs.lemmas.List.{take-append-le, take-append-drop, map-append}
+use Rattle.std.proofs.lemmas.List.{take-append-le, take-append-drop, length-take-le, length-drop, map-append}
 use Rattle.std.proofs.lemmas.List.Elements.{All-nil, All-cons, All-append}
 use Rattle.std.proofs.lemmas.List.Concat.{flat_map-append}
 use Rattle.std.proofs.Math.Seq.{take-append_seam}
 use Rattle.pb_frame.specs.Limits.{max_request_len}
 use Rattle.pb_frame.specs.Message.{CodedMessage, frame, FitsLimit, IsPartial}
 use Rattle.node_session.specs.declared.exchange.Exchange.{Exchange}
-use Rattle.node_session.specs.Views.{EndsInPiece, IsRead, message_of, messages_of}
+use Rattle.pb_frame.proofs.Headers.{more_partial}
+use Rattle.node_session.specs.Answered.{CameInLastRead}
+use Rattle.node_session.specs.Views.{CanFollow, EndsInPiece, IsRead, message_of, messages_of}
 
 -- a frame has a byte
 pub some_frame : (m : CodedMessage) → 0 < length (frame m)
@@ -44,6 +46,46 @@ goes_on rest more m last within e =
     let len : length y + length piece ≡ length (frame m) + length more = sym (length-append y piece) ∙ ap length front ∙ length-append (frame m) more in
     let few : length piece ≤ 4096 = last.bound in
     record { before = []; piece = more; splits = refl; bound = omega (arith, ends, len, few); partial = none_partial }
+
+-- fewer bytes may follow too
+pub fewer_follow : (rest : List ℕ) (len fewer : ℕ) → fewer ≤ len → CanFollow rest len → CanFollow rest fewer
+fewer_follow rest len fewer le (inl few) = inl (omega (arith, few, le))
+fewer_follow rest len fewer le (inr fits) = inr (fits.0, omega (arith, fits.1, le))
+
+-- what ends a session behind a piece came with its last bytes: nothing is wrong with what precedes these, and no whole frame stands there
+pub came_after : (rest piece : List ℕ) → IsPartial max_request_len rest → CanFollow rest (length piece) → 0 < length piece → CameInLastRead (rest ++ piece)
+came_after rest piece p (inl few) some = record { before = rest; piece = piece; splits = refl; some = some; bound = few; partial = p }
+came_after rest piece p (inr fits) some =
+    let n = length piece - 1 in
+    let within : n ≤ length piece = omega arith in
+    let most : length (take n piece) ≡ n = length-take-le n piece within in
+    let last : length (drop n piece) ≡ length piece - n = length-drop n piece in
+    record {
+      before = rest ++ take n piece;
+      piece = drop n piece;
+      splits = ap (λ (t : List ℕ). rest ++ t) (sym (take-append-drop n piece)) ∙ sym (append_assoc rest (take n piece) (drop n piece));
+      some = omega (arith, last, some);
+      bound = omega (arith, last, some);
+      partial = more_partial max_request_len rest (take n piece) (omega arith) p fits.0 (omega (arith, most, fits.1, some));
+    }
+
+-- what is left with a piece behind it ends in one
+pub ends_after : (rest piece : List ℕ) → IsPartial max_request_len rest → CanFollow rest (length piece) → EndsInPiece (rest ++ piece)
+ends_after rest piece p follows =
+    elim (cases_lt 0 (length piece)) [
+      | inl some ↦
+          let c = came_after rest piece p follows some in
+          record { before = c.before; piece = c.piece; splits = c.splits; bound = c.bound; partial = c.partial }
+      | inr none ↦ record { before = rest; piece = piece; splits = refl; bound = omega (arith, none); partial = p }
+    ]
+
+-- one piece more
+pub read_on : (input rest piece : List ℕ) (es : List Exchange) → IsRead input es rest → IsPartial max_request_len rest → CanFollow rest (length piece) → IsRead (input ++ piece) es (rest ++ piece)
+read_on input rest piece es read p follows = record {
+  stream = ap (λ (t : List ℕ). t ++ piece) read.stream ∙ append_assoc (flat_map frame (messages_of es)) rest piece;
+  each = read.each;
+  last = ends_after rest piece p follows;
+}
 
 -- one message more
 pub read_more : (input rest more : List ℕ) (es : List Exchange) (x : Exchange) → IsRead input es rest → FitsLimit max_request_len (message_of x) → rest ≡ frame (message_of x) ++ more

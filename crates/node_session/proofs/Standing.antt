@@ -21,7 +21,8 @@ use Rattle.node_session.specs.Answered.{AllAnswered, AnsweredInput, NextReply, I
 use Rattle.node_session.specs.Session.{IsInputEnd, MadeReads, Stops}
 use Rattle.node_session.specs.Sending.{IsWriteCutShort, Stands}
 use Rattle.node_session.specs.Nexts.{AnswersNext, IsNextAnswered, IsBadNext, IsLost}
-use Rattle.node_session.specs.Views.{SessionView, EndsInPiece, IsRead, message_of, messages_of, replies_of}
+use Rattle.node_session.specs.Views.{SessionView, CanFollow, EndsInPiece, IsRead, message_of, messages_of, replies_of}
+use Rattle.node_session.proofs.Frames.{came_after}
 pub use Rattle.node_session.proofs.Frames.{some_frame}
 
 -- a piece with a byte
@@ -210,8 +211,8 @@ module _ {S : Type 0} (Step : S → Request → Reply → S → Type 0) where
     at_end len is partial = ended Step a b h h' h'' s count p read counted [] (IsInputEnd b len) none_more (record { through = record { node = refl; partial = partial; nothing = refl }; left = sym is })
 
     -- memory was refused for a piece
-    pub unkept : (piece : List ℕ) → 0 < length piece → length piece ≤ 4096 → IsPartial max_request_len s.rest → AnsweredInput Step a (s.input ++ piece) h h'' count (AtLastRead (IsMemoryRefused Step b))
-    unkept piece some few partial =
+    pub unkept : (piece : List ℕ) → 0 < length piece → CanFollow s.rest (length piece) → IsPartial max_request_len s.rest → AnsweredInput Step a (s.input ++ piece) h h'' count (AtLastRead (IsMemoryRefused Step b))
+    unkept piece some follows partial =
         record {
           messages = messages_of s.exchanges;
           replies = replies_of s.exchanges;
@@ -223,16 +224,16 @@ module _ {S : Type 0} (Step : S → Request → Reply → S → Type 0) where
           run = p.run;
           counted = length-map s.exchanges message_of ∙ counted;
           written = Appends-trans h h' h'' _ [] p.written none_more;
-          ends = (record { before = s.rest; piece = piece; splits = refl; some = some; bound = few; partial = partial }, inr (record { node = refl; nothing = refl }));
+          ends = (came_after s.rest piece partial follows some, inr (record { node = refl; nothing = refl }));
         }
 
 -- no read was made yet
 pub MadeReads-none : (unread : Option (List ℕ)) → MadeReads unread unread 0
 MadeReads-none unread = record { input = []; read = Consumes-nil unread; interrupted = 0; gave = omega arith }
 
--- one more read gave a piece
-pub MadeReads-piece : (a b c : Option (List ℕ)) (i : ℕ) (piece : List ℕ) → MadeReads a b i → Consumes b c piece → 0 < length piece → MadeReads a c (i + 1)
-MadeReads-piece a b c i piece p read some =
+-- so many reads more gave a piece
+pub MadeReads-piece : (a b c : Option (List ℕ)) (i k : ℕ) (piece : List ℕ) → MadeReads a b i → Consumes b c piece → k ≤ length piece → MadeReads a c (i + k)
+MadeReads-piece a b c i k piece p read some =
     let len : length (p.input ++ piece) ≡ length p.input + length piece = length-append p.input piece in
     let before : i ≤ p.interrupted + length p.input = p.gave in
     record { input = p.input ++ piece; read = Consumes-trans a b c p.input piece p.read read; interrupted = p.interrupted; gave = omega (arith, len, before, some) }

@@ -8,7 +8,7 @@ use Rattle.node_session.specs.declared.fault.SessionFault.{SessionFault}
 use Rattle.node_session.specs.declared.fault.SessionFault.TheVariants.{ReadFailed, WriteFailed, BadFrame, TooManyReads, NoMemory}
 use Rattle.node_session.specs.Answered.{AnsweredInput, AllAnswered, IsBadLengthTold, WriteFailedAt, IsMemoryRefused, AtLastRead}
 
--- a reader gave an input, by so many reads at most, each of which takes at most so much
+-- a reader gave an input, by so many reads at most, each of which takes at most so much: one that takes more counts for as many as would
 pub record Given (unread unread' : Option (List ℕ)) (reads : ℕ) (Serves : List ℕ → Type 0) : Type 0 where
   pub input : List ℕ
   pub read : Consumes unread unread' input

@@ -1,10 +1,10 @@
 -- What callers see of a session.
-use Rattle.std.specs.Prelude.{◌≡◌, ℕ, ◌≤◌, List, [], ◌++◌, Option, None, length, map}
+use Rattle.std.specs.Prelude.{◌≡◌, ℕ, ◌+◌, ◌⊎◌, ◌≤◌, List, [], ◌++◌, Option, None, length, map}
 use Rattle.std.specs.List.{flat_map, All}
 use Rattle.pb_frame.specs.declared.fault.FrameFault.{FrameFault}
 use Rattle.pb_frame.specs.Limits.{max_request_len}
 use Rattle.node_session.specs.Limits.{max_read_len}
-use Rattle.pb_frame.specs.Message.{CodedMessage, frame, FitsLimit, IsPartial}
+use Rattle.pb_frame.specs.Message.{CodedMessage, frame, given_length, FitsLimit, IsPartial}
 use Rattle.riak_msgs.specs.declared.reply.Reply.{Reply}
 use Rattle.node_session.specs.declared.exchange.Exchange.{Exchange}
 
@@ -37,6 +37,10 @@ pub record EndsInPiece (rest : List ℕ) : Type 0 where
   pub splits : rest ≡ before ++ piece
   pub bound : length piece ≤ max_read_len
   pub partial : IsPartial max_request_len before
+
+-- so many bytes may be read at once behind what is left: as many as a read takes at most, or no more than the message that stands there lacks
+abbrev pub CanFollow : List ℕ → ℕ → Type 0
+CanFollow rest len = (len ≤ max_read_len) ⊎ ((4 ≤ length rest) × (length rest + len ≤ given_length rest + 4))
 
 -- the input is the frames of the messages that were answered, and then what is left
 pub record IsRead (input : List ℕ) (exchanges : List Exchange) (rest : List ℕ) : Type 0 where

@@ -29,7 +29,7 @@ pub fn plain_node_is_register()
         → StopsAreRegisters run index_bits budget }
 {}
 
-/// What a session reads at a time, at most, is the limit of the definitions.
+/// What one read counts for, at most, is the limit of the definitions.
 pub fn read_limit()
     ensures { MAX_READ_LEN ≡ max_read_len }
 {}

@@ -23,7 +23,8 @@
 //! stops among its answers, no frame is left unanswered but those that its last 4,096 bytes at most made whole. It never
 //! holds the whole input: only the frame that is still to come whole, what was read along with it, and one reply. Errors
 //! take no memory. It asks the writer to flush before each read, so a writer may gather the replies and pay one write
-//! for all that a read brought.
+//! for all that a read brought. Where a worker lends the room ([`Scratch`]), what a long message still lacks is read up to
+//! 65,536 bytes at a time, and never more than that: such a read counts as one for each 4,096 bytes of it.
 //!
 //! `PlainNode` is a node for one thread: the vnodes of a ring, each key in that of its partition, whose machine is its
 //! step (`specs/PlainNodes`). After each answer to a get, a put or a delete it forgets the first dead keys of that key's
@@ -40,6 +41,7 @@ mod framed_reply;
 mod laws;
 mod node;
 mod plain_node;
+mod reading;
 mod reply;
 mod reply_frame;
 mod report;

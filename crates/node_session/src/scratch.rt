@@ -2,6 +2,7 @@
 
 ghost use Rattle.std.specs.Prelude.{◌≡◌, []};
 
+use crate::reading::LONG_READ_LEN;
 use crate::serving::MAX_READ_LEN;
 use pb_frame::{Framer, return_room};
 use std::alloc::Global;
@@ -10,14 +11,16 @@ use std::mem;
 /// How much room is kept for requests, and how much for a reply, in bytes.
 const MOST_ROOM: usize = 65_520;
 
-/// What a worker lends to each step of its sessions: the bytes that a read comes into, room for requests that are still to be answered, and room for the
-/// frame of a reply.
+/// What a worker lends to each step of its sessions: the bytes that a read comes into, those of a long message, room for requests that are still to be
+/// answered, and room for the frame of a reply.
 ///
 /// A session takes room when it has read or replied something, and gives it back once all that was read is answered and sent: one that waits for its
-/// next request holds none. Once [`make_room`](Self::make_room) has made both, a request of up to 61,424 bytes and a reply of up to
+/// next request holds none. Once [`make_room`](Self::make_room) has made all, a request of up to 61,424 bytes and a reply of up to
 /// 65,520 take no memory for their frames: so they come and go in a node that has none left too. Longer ones take memory of their own.
 pub struct Scratch {
     pub(crate) piece: [u8; MAX_READ_LEN],
+    /// None, or as many as a long read takes.
+    pub(crate) long_piece: Vec<u8>,
     pub(crate) requests: Vec<u8>,
     reply: Vec<u8>,
 }
@@ -27,6 +30,7 @@ impl Drop for Scratch {
     fn drop(self) {
         let Scratch {
             piece: _piece,
+            long_piece: _long_piece,
             requests: _requests,
             reply: _reply,
         } = self;
@@ -38,6 +42,7 @@ impl Scratch {
     pub fn new(alloc: Global) -> Scratch {
         Scratch {
             piece: [0; MAX_READ_LEN],
+            long_piece: Vec::new(alloc),
             requests: Vec::new(alloc),
             reply: Vec::new(alloc),
         }
@@ -49,6 +54,7 @@ impl Scratch {
         self.reply.clear();
         self.requests.reserve_exact(MOST_ROOM).is_ok()
             && self.reply.reserve_exact(MOST_ROOM).is_ok()
+            && self.long_piece.resize(LONG_READ_LEN, 0).is_ok()
     }
 
     /// Takes the room for requests back where nothing is to be answered.

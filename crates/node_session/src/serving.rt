@@ -13,13 +13,13 @@ use crate::scratch::Scratch;
 use std::alloc::Global;
 use std::io::{Read, Write};
 
-/// How many bytes are read at a time, at most.
+/// How many bytes one read counts for, at most.
 pub const MAX_READ_LEN: usize = 4096;
 
 /// Serves one connection: reads requests from `reader` to the end of the input, at most `reads` times, answers each of
 /// them in order by `node`, and writes the replies to `writer`.
 ///
-/// A read takes up to [`MAX_READ_LEN`] bytes, and each whole request that has come is answered before the next read. A request's
+/// A read takes up to [`MAX_READ_LEN`] bytes here, and each whole request that has come is answered before the next read. A request's
 /// frame has a length of at most [`MAX_REQUEST_LEN`]. A message that is no request is answered by its error, and the
 /// session goes on. A read, write or flush that is interrupted is tried again; such a read counts as one. The writer is
 /// flushed before each read, so that at the end all is flushed, and, as far as that can be done, after a fault.

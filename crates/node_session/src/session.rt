@@ -4,7 +4,7 @@ ghost use Rattle.std.specs.Prelude.{◌≡◌, ◌+◌, ◌^◌, ◌≤◌, ◌<
 ghost use Rattle.pb_frame.specs.Limits.{max_request_len};
 ghost use Rattle.node_session.specs.Limits.{max_read_len};
 ghost use Rattle.pb_frame.specs.Message.{IsPartial, given_length};
-ghost use Rattle.node_session.specs.Views.{new_session, IsRead};
+ghost use Rattle.node_session.specs.Views.{new_session, CanFollow, IsRead};
 ghost use Rattle.node_session.specs.Nexts.{AnswersNext};
 ghost use Rattle.node_session.specs.Unsent.{IsFront};
 
@@ -107,12 +107,12 @@ impl Session {
         let _ = &self.framer;
     }
 
-    /// Takes a piece that was read, of at most 4,096 bytes, behind all others. Each whole message was answered before. Where memory is
-    /// refused nothing changes.
+    /// Takes a piece that was read behind all others, of at most 4,096 bytes or no more than the next message lacks. Each whole message was
+    /// answered before. Where memory is refused nothing changes.
     pub fn feed(&mut self, piece: &[u8]) -> Result<(), AllocError>
         requires no_fault { self.old.fault ≡ None }
         requires idle { IsPartial max_request_len self.old.rest }
-        requires bound { length piece.now ≤ max_read_len }
+        requires follows { CanFollow self.old.rest (length piece.now) }
         ensures ok { OnOk result (self.new ≡ record self.old {
           input = self.old.input ++ piece.now;
           rest = self.old.rest ++ piece.now;
@@ -125,6 +125,15 @@ impl Session {
         let longer = GhostList::listed::<(&GhostList<u8>, &[u8]), Fed>(&(&self.input, piece));
         self.input = longer;
         Ok(())
+    }
+
+    /// How many bytes the message lacks that has begun to come: 0 until its length has come.
+    #[inline(always)]
+    pub(crate) fn missing(&self) -> usize
+        ensures { 0 < result → (4 ≤ length self.now.rest)
+            × (length self.now.rest + result ≡ given_length self.now.rest + 4) }
+    {
+        self.framer.missing()
     }
 
     /// Lends it room for a piece of so many bytes.
@@ -164,7 +173,7 @@ impl Session {
     ) -> Result<(), AllocError>
         requires no_fault { self.old.fault ≡ None }
         requires idle { IsPartial max_request_len self.old.rest }
-        requires bound { length piece.now ≤ max_read_len }
+        requires follows { CanFollow self.old.rest (length piece.now) }
         ensures ok { OnOk result (self.new ≡ record self.old {
           input = self.old.input ++ piece.now;
           rest = self.old.rest ++ piece.now;

@@ -3,7 +3,6 @@ ghost use Rattle.std.specs.Prelude.{◌≡◌, ◌<◌, ◌≤◌, [], ℕ, List
 ghost use Rattle.std.specs.Io.KnownBytes.{Keeps};
 ghost use Rattle.pb_frame.specs.Limits.{max_request_len};
 ghost use Rattle.pb_frame.specs.Message.{IsPartial};
-ghost use Rattle.node_session.specs.Limits.{max_read_len};
 ghost use Rattle.node_session.specs.Views.{new_session};
 ghost use Rattle.node_session.specs.Courses.{Came, IsOverBy, Goes, Fits, IsGoing, CanWait, weight};
 ghost use Rattle.node_session.specs.declared.stage.Stage.TheVariants.{Answering, Sending, Telling, Flushing, Reading, Closing};
@@ -16,7 +15,7 @@ use crate::session::{Halt, Next, Session};
 use crate::stage::Stage;
 use byte_streams::{Flushed, Wrote, try_flush, try_write};
 use std::alloc::Global;
-use std::io::{ErrorKind, Read, Write};
+use std::io::{Read, Write};
 
 /// A session, and what it has counted: how many replies were written whole, how many reads were made, and how many are made at most.
 ///
@@ -173,80 +172,6 @@ impl Talk {
         }
     }
 
-    /// Reads once into a buffer of at most 4,096 bytes, and takes what comes, which this node will answer, where it has no room into what is lent. None where the reader would have to
-    /// wait.
-    #[inline(always)]
-    pub(crate) fn read<N: Node, R: Read>(
-        &mut self,
-        alloc: Global,
-        reader: &mut R,
-        node: &N,
-        piece: &mut [u8],
-        requests: &mut Vec<u8>,
-    ) -> Option<Stage>
-        requires fits { Fits Reading self.old }
-        requires room { (0 < length piece.old) × (length piece.old ≤ max_read_len) }
-        ensures goes { IfSome result (λ stage. (now : N) (held : Option (List ℕ)) → Goes N.step
-            now now (R.remaining reader.old) (R.remaining reader.new) held held
-            Reading self.old stage self.new) }
-        ensures fits { IfSome result (λ stage. Fits stage self.new) }
-        ensures less { IfSome result (λ stage.
-            weight stage self.new < weight Reading self.old) }
-        ensures most { self.new.most ≡ self.old.most }
-        ensures waits { IfNone result ((self.new ≡ self.old)
-            × Keeps (R.remaining reader.old) (R.remaining reader.new)) }
-    {
-        self.session.is_read();
-        match reader.read(piece) {
-            Ok(0) => Some(Stage::Over(Ok(Ended {
-                replies: self.replies,
-                rest: self.session.rest(),
-            }))),
-            Ok(n) => {
-                self.made += 1;
-                self.session.lend(requests, n);
-                let Ok(()) = self.session.feed_for(alloc, node, &piece[..n]) else {
-                    return Some(Stage::Closing(SessionFault::NoMemory(self.replies)));
-                };
-                Some(Stage::Answering)
-            }
-            Err(error) => match error.kind() {
-                ErrorKind::WouldBlock => None,
-                ErrorKind::Interrupted => {
-                    self.made += 1;
-                    Some(Stage::Flushing)
-                }
-                _ => Some(Stage::Over(Err(SessionFault::ReadFailed(self.replies)))),
-            },
-        }
-    }
-
-    /// Reads once into a buffer of 4,096 bytes: as much as there is room for in what is lent, or what a page holds.
-    #[inline(always)]
-    fn read_some<N: Node, R: Read>(
-        &mut self,
-        alloc: Global,
-        reader: &mut R,
-        node: &N,
-        piece: &mut [u8],
-        requests: &mut Vec<u8>,
-    ) -> Option<Stage>
-        requires fits { Fits Reading self.old }
-        requires room { length piece.old ≡ max_read_len }
-        ensures goes { IfSome result (λ stage. (now : N) (held : Option (List ℕ)) → Goes N.step
-            now now (R.remaining reader.old) (R.remaining reader.new) held held
-            Reading self.old stage self.new) }
-        ensures fits { IfSome result (λ stage. Fits stage self.new) }
-        ensures less { IfSome result (λ stage.
-            weight stage self.new < weight Reading self.old) }
-        ensures most { self.new.most ≡ self.old.most }
-        ensures waits { IfNone result ((self.new ≡ self.old)
-            × Keeps (R.remaining reader.old) (R.remaining reader.new)) }
-    {
-        let len = self.session.reading_len(requests);
-        self.read::<N, R>(alloc, reader, node, &mut piece[..len], requests)
-    }
-
     /// Takes one step from a stage that isn't the last one. The stage to which it comes; None where a stream would have to wait.
     #[inline(always)]
     pub(crate) fn go<N: Node, R: Read, W: Write>(
@@ -279,10 +204,11 @@ impl Talk {
             Stage::Reading => {
                 let Scratch {
                     piece,
+                    long_piece,
                     requests,
                     ..
                 } = scratch;
-                self.read_some::<N, R>(alloc, reader, &*node, piece, requests)
+                self.read_some::<N, R>(alloc, reader, &*node, piece, long_piece, requests)
             }
             Stage::Closing(fault) => self.close::<N, W>(writer, fault),
             Stage::Over(_) => unreachable!(),

@@ -108,6 +108,23 @@ short_partial limit rest lt short = record {
   short = short;
 }
 
+-- the length that a stream begins with is in its first four bytes
+given_length-more : (bytes more : List ℕ) → 4 ≤ length bytes → given_length (bytes ++ more) ≡ given_length bytes
+unfolding given_length
+given_length-more [] more four = absurd (omega (arith, four))
+given_length-more (a ∷ []) more four = absurd (omega (arith, four))
+given_length-more (a ∷ b ∷ []) more four = absurd (omega (arith, four))
+given_length-more (a ∷ b ∷ c ∷ []) more four = absurd (omega (arith, four))
+given_length-more (a ∷ b ∷ c ∷ d ∷ rest) more four = number_is a b c d (rest ++ more) ∙ sym (number_is a b c d rest)
+
+-- what has come of a frame is no whole frame as long as a byte of it is missing
+pub more_partial : (limit : ℕ) (rest more : List ℕ) → limit < 2 ^ 32 → IsPartial limit rest → 4 ≤ length rest → length rest + length more < given_length rest + 4 → IsPartial limit (rest ++ more)
+more_partial limit rest more lt p four within =
+    let given : given_length (rest ++ more) ≡ given_length rest = given_length-more rest more four in
+    let len : length (rest ++ more) ≡ length rest + length more = length-append rest more in
+    let known = p.short four in
+    short_partial limit (rest ++ more) lt (λ long. (subst (λ (n : ℕ). 0 < n) (sym given) known.0, subst (λ (n : ℕ). n ≤ limit) (sym given) known.1, omega (arith, given, len, within)))
+
 -- a bad length begins no frame
 pub bad_faulty : (limit : ℕ) (rest : List ℕ) (fault : FrameFault) → limit < 2 ^ 32 → IsBadLength limit rest fault → IsFaulty limit rest fault
 bad_faulty limit rest Empty lt bad = record {

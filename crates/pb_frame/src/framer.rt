@@ -1,11 +1,13 @@
 //! A stream of frames that is fed in any pieces.
 
-ghost use Rattle.std.specs.Prelude.{◌≡◌, ◌≤◌, ◌<◌, ◌++◌, [], length, None, IfSome, IsErrOf, IsOkUnless, OnOk, OnErr, vec_capacity};
+ghost use Rattle.std.specs.Prelude.{◌≡◌, ◌≤◌, ◌<◌, ◌+◌, ◌-◌, ◌++◌, [], length, None, IfSome, IsErrOf, IsOkUnless, OnOk, OnErr, vec_capacity};
+ghost use Rattle.pb_frame.specs.Message.{given_length};
 
 use crate::decode::{Header, decode_header};
 use crate::fault::FrameFault;
 use crate::frame::Frame;
 use crate::idle::{return_room, shrink_empty};
+use byteorder::{BigEndian, ByteOrder};
 use std::alloc::Global;
 use std::marker::Model;
 use std::mem;
@@ -80,6 +82,21 @@ impl Framer {
         self.bytes.len() - self.start
     }
 
+    /// How many bytes of the frame at the front are still to come, by its four length bytes: 0 where it has come whole, or where these aren't
+    /// all there. Takes no memory.
+    #[tactic(auto, unfolding(crate::specs::Message::given_length))]
+    pub fn missing(&self) -> usize
+        ensures short { length self.now.rest < 4 → result ≡ 0 }
+        ensures long { 4 ≤ length self.now.rest
+            → result ≡ given_length self.now.rest + 4 - length self.now.rest }
+    {
+        let rest = &self.bytes[self.start..];
+        if rest.len() < 4 {
+            return 0;
+        }
+        (BigEndian::read_u32(rest) as usize + 4).saturating_sub(rest.len())
+    }
+
     /// Adds a piece at the end of what was fed. An `Err` changes nothing: it is `NoMemory`, after which
     /// the same piece may be fed again, or the bad length that [`Framer::take`] returned, which is
     /// final.
@@ -96,7 +113,7 @@ impl Framer {
             return Err(fault);
         }
         self.compact();
-        if !self.has_small_room(piece.len()) {
+        if !self.has_room(piece.len()) {
             return Err(FrameFault::NoMemory);
         }
         match self.bytes.extend_from_slice(piece) {
@@ -105,14 +122,28 @@ impl Framer {
         }
     }
 
-    /// Makes room for so many bytes more, and for no others, where a small buffer is enough. False where memory is refused for it.
-    fn has_small_room(&mut self, more: usize) -> bool
+    /// Makes room for so many bytes more, and for no others, where a small buffer is enough, and for all that a frame lacks once a fifth of it has
+    /// come. False where memory is refused for it.
+    fn has_room(&mut self, more: usize) -> bool
         ensures { self.new ≡ self.old }
     {
-        if self.bytes.len().saturating_add(more) > SMALL {
-            return true;
+        let wanted = self.wanted_room(more);
+        self.bytes.reserve_exact(wanted).is_ok()
+    }
+
+    /// For how many bytes room is made at once before so many come; 0 where a buffer grows as it is filled.
+    fn wanted_room(&self, more: usize) -> usize {
+        let len = self.bytes.len().saturating_add(more);
+        if len <= SMALL {
+            return more;
         }
-        self.bytes.reserve_exact(more).is_ok()
+        // a length alone makes nobody take memory for what may never come
+        let missing = self.missing();
+        if missing > more && missing / 4 <= len {
+            missing
+        } else {
+            0
+        }
     }
 
     /// How many of so many bytes are to be read at once: all where they have room in this buffer or in a lent one, else as many as a small

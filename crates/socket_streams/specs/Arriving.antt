@@ -1,10 +1,13 @@
 -- What a listener gives as a source of jobs.
-use Rattle.std.specs.Prelude.{◌≡◌, ◌+◌, ℕ, Bool, false, Option, Some, None, Result, Ok, Err}
+use Rattle.std.specs.Prelude.{◌≡◌, ◌+◌, ℕ, Bool, false, [], Option, Some, None, Result, Ok, Err}
 use Rattle.job_pool.specs.declared.jobs.JobFault.{JobFault}
 use Rattle.gate_node.specs.Gates.{Gates}
 use Rattle.gate_node.specs.Passes.{AreUnused}
 use Rattle.worker_pool.specs.declared.job.Job.{Job}
 use Rattle.worker_pool.specs.Serving.{IsForGates}
+use Rattle.socket_streams.specs.declared.halves.RequestHalf.{RequestHalf}
+use Rattle.socket_streams.specs.declared.halves.ReplyHalf.{ReplyHalf}
+use Rattle.socket_streams.specs.Sending.{written}
 
 -- the gates that its connections are for, how many are accepted at most, whether one counts that is closed for want of memory, whether an input
 -- may end that before, how many were given, and how many of those that count were closed
@@ -23,18 +26,18 @@ pub record IsSameSource (first last : ArrivalsView) : Type 0 where
   pub counts_refused : last.counts_refused ≡ first.counts_refused
   pub can_stop : last.can_stop ≡ first.can_stop
 
-module _ {I O : Type 0} where
-  -- a connection by passes of these gates that have seen nothing
-  pub record IsNewConnection (gates : Gates) (job : Job I O) : Type 0 where
-    pub of_gates : IsForGates gates job
-    pub unused : AreUnused job.passes
+-- a connection by passes of these gates that have seen nothing, to which nothing was written
+pub record IsNewConnection (gates : Gates) (job : Job RequestHalf ReplyHalf) : Type 0 where
+  pub of_gates : IsForGates gates job
+  pub unused : AreUnused job.passes
+  pub unwritten : written job.writer ≡ []
 
-  -- a connection, of which there is one more; none, where as many were accepted as are to be, or an input may have ended, and none was closed that
-  -- counts where none does; or a fault
-  abbrev pub GivesNext : ArrivalsView → Result (Option (Job I O)) JobFault → ArrivalsView → Type 0
-  GivesNext first (Ok (Some job)) last = IsNewConnection first.gates job × (last.given ≡ first.given + 1)
-  GivesNext first (Ok None) last = (last.given ≡ first.given) × (first.can_stop ≡ false → first.limit ≡ Some (last.given + last.refused)) × (first.counts_refused ≡ false → last.refused ≡ 0)
-  GivesNext first (Err fault) last = Unit {0}
+-- a connection, of which there is one more; none, where as many were accepted as are to be, or an input may have ended, and none was closed that
+-- counts where none does; or a fault
+abbrev pub GivesNext : ArrivalsView → Result (Option (Job RequestHalf ReplyHalf)) JobFault → ArrivalsView → Type 0
+GivesNext first (Ok (Some job)) last = IsNewConnection first.gates job × (last.given ≡ first.given + 1)
+GivesNext first (Ok None) last = (last.given ≡ first.given) × (first.can_stop ≡ false → first.limit ≡ Some (last.given + last.refused)) × (first.counts_refused ≡ false → last.refused ≡ 0)
+GivesNext first (Err fault) last = Unit {0}
 
-  abbrev pub GivesConnection : ArrivalsView → Result (Option (Job I O)) JobFault → ArrivalsView → Type 0
-  GivesConnection first given last = IsSameSource first last × GivesNext first given last
+abbrev pub GivesConnection : ArrivalsView → Result (Option (Job RequestHalf ReplyHalf)) JobFault → ArrivalsView → Type 0
+GivesConnection first given last = IsSameSource first last × GivesNext first given last

@@ -1,3 +1,4 @@
 -- The definitions of this crate.
 pub mod Accepting
 pub mod Arriving
+pub mod Sending

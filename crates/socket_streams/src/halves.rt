@@ -1,12 +1,16 @@
 //! The two halves of a connection over a socket that needs not wait.
 
-ghost use Rattle.std.specs.Prelude.{◌≤◌, length, IfOk};
+ghost use Rattle.std.specs.Prelude.{◌≡◌, ◌≤◌, ◌++◌, [], take, drop, length, Some, IfOk, OnOk, OnErr};
+ghost use Rattle.std.specs.Io.KnownBytes.{WriteAppends};
+ghost use Rattle.socket_streams.specs.Sending.{written};
 
 use crate::connection::{Connection, Socket};
+use ghost_state::{GhostList, Listing};
 use pb_frame::shrink_empty;
 use std::alloc::Global;
 use std::io;
 use std::io::{ErrorKind, Read, Write};
+use std::marker::Model;
 use std::net::{Shutdown, SocketAddr, TcpStream};
 use std::os::fd::{AsRawFd, RawFd};
 use std::sync::Arc;
@@ -26,12 +30,98 @@ pub struct RequestHalf {
 /// The half to which replies are written. It gathers them, up to 8,192 bytes or until it is flushed, for one write to the socket. A write that
 /// finds no room, and a flush, return `WouldBlock` while the socket doesn't take what is gathered. Where memory is refused for what is to be
 /// gathered, it is written to the socket at once. After the session's end it has let go of the socket, and takes nothing more.
+///
+/// Clauses see all that was written to it: what the system took, what is gathered behind that, and what was let go of at the session's end.
 #[derive(Drop)]
 pub struct ReplyHalf {
     socket: Option<Socket>,
     /// Those before `sent` were sent.
     gathered: Vec<u8>,
     sent: usize,
+    /// What the system took, for clauses alone.
+    taken: GhostList<u8>,
+    /// What was gathered and not sent when the session ended, for clauses alone.
+    lost: GhostList<u8>,
+}
+
+impl Model for ReplyHalf {
+    ghost use Rattle.std.specs.Prelude.{◌≡◌, ◌≤◌, [], drop, length, IfSome, IfNone};
+    ghost use Rattle.socket_streams.specs.Sending.{RepliesView};
+
+    ghost Value = { RepliesView };
+
+    ghost view = { λ half. record {
+      sent = half.taken;
+      held = drop half.sent half.gathered.items;
+      lost = half.lost;
+    } };
+
+    ghost invariant = { λ half. (half.sent ≤ length half.gathered.items)
+        × IfSome half.socket (λ _. half.lost ≡ [])
+        × IfNone half.socket (half.gathered.items ≡ []) };
+}
+
+/// A list, and behind it the first so many of these bytes.
+struct WithFirst;
+
+impl<'a> Listing<(&'a GhostList<u8>, &'a [u8], usize), u8> for WithFirst {
+    ghost use Rattle.std.specs.Prelude.{◌++◌, take};
+
+    ghost list = { λ of. of.0.now ++ take of.2 of.1.now };
+}
+
+/// A list, and behind it these bytes without the first so many.
+struct WithRest;
+
+impl<'a> Listing<(&'a GhostList<u8>, &'a [u8], usize), u8> for WithRest {
+    ghost use Rattle.std.specs.Prelude.{◌++◌, drop};
+
+    ghost list = { λ of. of.0.now ++ drop of.2 of.1.now };
+}
+
+/// Hands bytes to the system, as many as it takes at once, which are noted behind those that it took before.
+fn send(socket: &Socket, taken: &mut GhostList<u8>, bytes: &[u8]) -> io::Result<usize>
+    ensures bound { IfOk result (λ n. n ≤ length bytes.now) }
+    ensures took { IfOk result (λ n. taken.new ≡ taken.old ++ take n bytes.now) }
+    ensures kept { OnErr result (taken.new ≡ taken.old) }
+{
+    let mut stream = socket.stream();
+    let came = stream.write(bytes);
+    match &came {
+        Ok(n) => {
+            let more: (&GhostList<u8>, &[u8], usize) = (&*taken, bytes, *n);
+            *taken = GhostList::listed::<(&GhostList<u8>, &[u8], usize), WithFirst>(&more);
+        }
+        Err(_) => socket.note_result(&came),
+    }
+    came
+}
+
+/// Hands to the system what is gathered behind the first so many bytes. `WouldBlock` where it doesn't take it all now.
+fn send_rest(
+    socket: &Socket,
+    taken: &mut GhostList<u8>,
+    gathered: &[u8],
+    sent: &mut usize,
+) -> io::Result<()>
+    requires { sent.old ≤ length gathered.now }
+    ensures within { sent.new ≤ length gathered.now }
+    ensures kept { taken.new ++ drop sent.new gathered.now
+        ≡ taken.old ++ drop sent.old gathered.now }
+    ensures all { OnOk result (sent.new ≡ length gathered.now) }
+{
+    for _ in 0..=MAX_GATHERED {
+        let rest = &gathered[*sent..];
+        if rest.is_empty() {
+            return Ok(());
+        }
+        let n = send(socket, taken, rest)?;
+        if n == 0 {
+            return Err(ErrorKind::WriteZero.into());
+        }
+        *sent += n;
+    }
+    Err(ErrorKind::WouldBlock.into())
 }
 
 impl RequestHalf {
@@ -91,55 +181,68 @@ impl EndRead for RequestHalf {
 }
 
 impl ReplyHalf {
-    /// Writes to the socket at once.
-    fn write_through(&self, buf: &[u8]) -> io::Result<usize>
-        ensures { IfOk result (λ n. n ≤ length buf.now) }
+    /// Of a socket to which nothing was written.
+    fn new(alloc: Global, socket: Socket) -> ReplyHalf
+        ensures { result ≡ record { sent = []; held = []; lost = [] } }
     {
-        match &self.socket {
-            Some(socket) => {
-                let mut stream = socket.stream();
-                let came = stream.write(buf);
-                if came.is_err() {
-                    socket.note_result(&came);
-                }
-                came
-            }
-            None => Ok(0),
-        }
-    }
-
-    /// Writes to the socket what is gathered, as far as that takes it at once.
-    fn send_some(&self) -> io::Result<usize> {
-        match self.gathered.get(self.sent..) {
-            Some(rest) => self.write_through(rest),
-            None => Ok(0),
+        ReplyHalf {
+            socket: Some(socket),
+            gathered: Vec::new(alloc),
+            sent: 0,
+            taken: GhostList::new(),
+            lost: GhostList::new(),
         }
     }
 
     /// Writes all that is gathered to the socket. `WouldBlock` where that doesn't take it all now.
-    fn send_gathered(&mut self) -> io::Result<()> {
-        for _ in 0..=MAX_GATHERED {
-            if self.sent >= self.gathered.len() {
-                self.gathered.clear();
-                self.sent = 0;
-                return Ok(());
-            }
-            let n = self.send_some()?;
-            if n == 0 {
-                return Err(ErrorKind::WriteZero.into());
-            }
-            self.sent = self.sent.saturating_add(n);
+    fn send_gathered(&mut self) -> io::Result<()>
+        ensures kept { written self.new ≡ written self.old }
+        ensures all { OnOk result (self.new.held ≡ []) }
+        ensures lost { self.new.lost ≡ self.old.lost }
+    {
+        let Some(socket) = &self.socket else {
+            return Ok(());
+        };
+        send_rest(socket, &mut self.taken, &self.gathered, &mut self.sent)?;
+        self.gathered.clear();
+        self.sent = 0;
+        Ok(())
+    }
+
+    /// Writes to the socket at once, where nothing is gathered.
+    fn write_through(&mut self, buf: &[u8]) -> io::Result<usize>
+        requires { self.old.held ≡ [] }
+        ensures bound { IfOk result (λ n. n ≤ length buf.now) }
+        ensures bytes { WriteAppends (Some (written self.old)) (Some (written self.new))
+            result buf.now }
+        ensures lost { self.new.lost ≡ self.old.lost }
+    {
+        match &self.socket {
+            Some(socket) => send(socket, &mut self.taken, buf),
+            None => Ok(0),
         }
-        Err(ErrorKind::WouldBlock.into())
     }
 }
 
 impl Write for ReplyHalf {
-    fn write(&mut self, buf: &[u8]) -> io::Result<usize> {
+    ghost use Rattle.std.specs.Prelude.{Some};
+    ghost use Rattle.socket_streams.specs.Sending.{written};
+
+    ghost contents = { λ half. Some (written half) };
+
+    fn write(&mut self, buf: &[u8]) -> io::Result<usize>
+        ensures bound { IfOk result (λ n. n ≤ length buf.now) }
+        ensures bytes { WriteAppends (Some (written self.old)) (Some (written self.new))
+            result buf.now }
+        ensures lost { self.new.lost ≡ self.old.lost }
+    {
         if self.gathered.len() >= MAX_GATHERED {
             self.send_gathered()?;
         }
-        if self.socket.is_none() || (self.gathered.is_empty() && buf.len() >= MAX_GATHERED) {
+        if self.socket.is_none() {
+            return Ok(0);
+        }
+        if self.gathered.is_empty() && buf.len() >= MAX_GATHERED {
             return self.write_through(buf);
         }
         let room = MAX_GATHERED.saturating_sub(self.gathered.len());
@@ -151,7 +254,11 @@ impl Write for ReplyHalf {
         self.write_through(buf)
     }
 
-    fn flush(&mut self) -> io::Result<()> {
+    fn flush(&mut self) -> io::Result<()>
+        ensures bytes { written self.new ≡ written self.old }
+        ensures all { OnOk result (self.new.held ≡ []) }
+        ensures lost { self.new.lost ≡ self.old.lost }
+    {
         self.send_gathered()?;
         shrink_empty(&mut self.gathered);
         Ok(())
@@ -159,8 +266,14 @@ impl Write for ReplyHalf {
 }
 
 impl EndWrite for ReplyHalf {
-    fn ended(&mut self) {
+    fn ended(&mut self)
+        ensures bytes { written self.new ≡ written self.old }
+        ensures sent { self.new.sent ≡ self.old.sent }
+        ensures none { self.new.held ≡ [] }
+    {
         self.socket = None;
+        let unsent: (&GhostList<u8>, &[u8], usize) = (&self.lost, &self.gathered, self.sent);
+        self.lost = GhostList::listed::<(&GhostList<u8>, &[u8], usize), WithRest>(&unsent);
         self.gathered.clear();
         self.sent = 0;
         shrink_empty(&mut self.gathered);
@@ -180,7 +293,9 @@ pub(crate) fn new_halves(
     alloc: Global,
     socket: Socket,
     peer: SocketAddr,
-) -> io::Result<(RequestHalf, ReplyHalf)> {
+) -> io::Result<(RequestHalf, ReplyHalf)>
+    ensures { IfOk result (λ halves. written halves.1 ≡ []) }
+{
     socket.stream().set_nonblocking(true)?;
     socket.stream().set_nodelay(true)?;
     let theirs = Arc::try_clone(&socket)?;
@@ -188,10 +303,5 @@ pub(crate) fn new_halves(
         socket: Some(socket),
         peer,
     };
-    let writer = ReplyHalf {
-        socket: Some(theirs),
-        gathered: Vec::new(alloc),
-        sent: 0,
-    };
-    Ok((reader, writer))
+    Ok((reader, ReplyHalf::new(alloc, theirs)))
 }

@@ -4,12 +4,16 @@ ghost use Rattle.std.specs.Prelude.{◌≡◌, ◌<◌};
 use job_pool::{Finished, JobFault, Jobs, Moved, RunFault, Service, run};
 use std::alloc::{AllocError, Global};
 use std::sync::Wait;
+use std::sync::atomic::{AtomicU64, Ordering};
 use std::test::*;
+use std::thread;
 use std::thread::Threads;
 
 mod faults;
 mod locking;
 mod order;
+mod pace;
+mod turns;
 
 /// How many jobs a worker has served.
 #[derive(Drop)]
@@ -124,4 +128,18 @@ fn served(workers: &[Tally]) -> usize {
         sum = sum.saturating_add(worker.served);
     }
     sum
+}
+
+/// How often a number is looked at until it is late: minutes, also where other programs have the processors.
+const MOST_LOOKS: u32 = 50_000_000;
+
+/// Waits until a number is at least this. Where that doesn't come, it says so.
+fn wait_for(number: &AtomicU64, least: u64, is_late: &AtomicU64) {
+    for _ in 0..MOST_LOOKS {
+        if number.load(Ordering::SeqCst) >= least {
+            return;
+        }
+        thread::yield_now();
+    }
+    is_late.store(1, Ordering::SeqCst);
 }

@@ -9,12 +9,12 @@ mod tallies;
 
 use crate::diversions::{divert, has_partition};
 use crate::exchanges::new_shared;
-use crate::playing::{Session, play_on};
+use crate::playing::{Session, play, play_on};
 pub use crate::returns::rows::{PUTS_F_AND_G, PUTS_P};
 pub use crate::returns::tallies::gate_tally;
 use crate::returns::tallies::{Accepted, Side, has_accepted, reaps};
 use gate_node::{Open, Passes, Shared};
-use handoff::{Handoff, HandoffFault};
+use handoff::{Copied, Handoff, HandoffFault};
 use std::alloc::Global;
 use std::sync::Wait;
 
@@ -38,6 +38,10 @@ pub enum Call {
     Has(Accepted),
     /// One of its vnodes forgets its first dead key, asked by a pass of its own.
     Reap(Side),
+    /// Its primary is marked, as by a writer that gave up.
+    Mark,
+    /// So many sessions, each by passes of its own.
+    Serves(u32, &'static Session),
 }
 
 /// A copy back with this budget: how many keys it copies, and how many are stuck and left.
@@ -120,6 +124,11 @@ struct Stage {
     passes: Passes,
 }
 
+/// Whether a pass at the primary has seen what it had seen before the first copy, and the copies.
+fn saw_copies(copied: &Copied) -> bool {
+    copied.began.checked_add(u64::from(copied.keys)) == Some(copied.primary.seen())
+}
+
 /// Whether a copy back comes to what it says.
 fn copies_as_said<W: Wait>(
     rt: &W,
@@ -132,7 +141,10 @@ fn copies_as_said<W: Wait>(
 {
     match handoff.copy_back(rt, alloc, index, wanted.budget) {
         Ok(copied) => {
-            copied.keys == wanted.keys && copied.stuck == wanted.stuck && copied.left == wanted.left
+            copied.keys == wanted.keys
+                && copied.stuck == wanted.stuck
+                && copied.left == wanted.left
+                && saw_copies(&copied)
         }
         Err(_) => false,
     }
@@ -173,6 +185,24 @@ fn is_none_at<W: Wait>(rt: &W, alloc: Global, handoff: &Handoff, index: u16) -> 
     !is_copied && try_finish(rt, alloc, handoff, index) == Some(Finish::NotDiverted)
 }
 
+/// Whether the primary of a partition can be marked.
+fn is_marked(handoff: &Handoff, index: u16) -> bool {
+    match handoff.gates().get(usize::from(index)) {
+        Some(gate) => gate.mark(),
+        None => false,
+    }
+}
+
+/// Whether each of so many sessions over these gates comes to what it says.
+fn serves<W: Wait>(rt: &W, alloc: Global, shared: &Shared, times: u32, session: &Session) -> bool {
+    for _ in 0..times {
+        if !play(rt, alloc, shared, &Open, session) {
+            return false;
+        }
+    }
+    true
+}
+
 /// Whether a call for the partition at this index comes to what it says.
 fn comes<W: Wait>(rt: &W, alloc: Global, shared: &Shared, index: u16, call: &Call) -> bool {
     let handoff = shared.handoff();
@@ -185,6 +215,8 @@ fn comes<W: Wait>(rt: &W, alloc: Global, shared: &Shared, index: u16, call: &Cal
         Call::NoneAt(other) => is_none_at(rt, alloc, handoff, *other),
         Call::Has(wanted) => has_accepted(rt, alloc, shared, index, wanted),
         Call::Reap(side) => reaps(rt, alloc, handoff, index, *side),
+        Call::Mark => is_marked(handoff, index),
+        Call::Serves(times, session) => serves(rt, alloc, shared, *times, session),
     }
 }
 

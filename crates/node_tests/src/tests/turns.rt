@@ -3,7 +3,7 @@
 ghost use Rattle.node_session.specs.Courses.{Fits};
 ghost use Rattle.std.specs.Prelude.{◌<◌};
 
-use crate::tests::frames::{PING, PONG};
+use crate::tests::frames::{PING, PONG, STORED};
 use crate::tests::sessions::{Part, Session, joined};
 use crate::tests::streams::{Call, Channel, Trouble, attempt};
 use node_session::{Course, Ended, PlainNode, Scratch, SessionFault};
@@ -148,15 +148,26 @@ fn mark(alloc: Global) -> bool {
     }
 }
 
-/// How a session of this input ends whose steps are lent room, between two marks.
-fn ends_between_marks(alloc: Global, input: &[u8], output: &[u8]) -> Option<Ended> {
+/// A session whose steps were lent room, as it ended.
+#[derive(Drop)]
+struct Ran {
+    end: Ended,
+    reads: u64,
+    /// For how many reads of 4,096 bytes these count.
+    made: u64,
+}
+
+/// How a session of this input goes whose steps are lent room, between two marks, where it takes all of its output. A read gives so many bytes at most.
+fn runs_between_marks(alloc: Global, input: &[u8], output: &[u8], piece: usize) -> Option<Ran>
+    requires { 0 < piece }
+{
     let Ok(mut node) = PlainNode::new(alloc, 1) else {
         return None;
     };
     let left = Cell::new(output.len());
     let mut source = Giving {
         left: input,
-        piece: 4_096,
+        piece,
         troubles: &[],
         reads: 0,
     };
@@ -181,7 +192,21 @@ fn ends_between_marks(alloc: Global, input: &[u8], output: &[u8]) -> Option<Ende
         &mut scratch,
     );
     match end {
-        Some(Ok(ended)) if mark(alloc) && left.get() == 0 => Some(ended),
+        Some(Ok(end)) if mark(alloc) && left.get() == 0 => Some(Ran {
+            end,
+            reads: source.reads,
+            made: course.talk.made,
+        }),
+        _ => None,
+    }
+}
+
+/// The same of the bytes of these parts.
+fn parts_run(alloc: Global, input: &[Part], output: &[Part], piece: usize) -> Option<Ran>
+    requires { 0 < piece }
+{
+    match (joined(alloc, input), joined(alloc, output)) {
+        (Ok(input), Ok(output)) => runs_between_marks(alloc, &input, &output, piece),
         _ => None,
     }
 }
@@ -190,24 +215,42 @@ const PINGS: &[Part] = &[Part::Times(2_000, PING)];
 
 const PONGS: &[Part] = &[Part::Times(2_000, PONG)];
 
-/// How a session of pings ends, between two marks.
-fn pings_end(alloc: Global) -> Option<Ended> {
-    match (joined(alloc, PINGS), joined(alloc, PONGS)) {
-        (Ok(input), Ok(output)) => ends_between_marks(alloc, &input, &output),
-        _ => None,
+/// Whether a session of pings comes to its end.
+fn pings_are_answered(alloc: Global) -> bool {
+    match parts_run(alloc, PINGS, PONGS, 4_096) {
+        Some(ran) => ran.end.replies == 2_000 && ran.end.rest == 0,
+        None => false,
     }
 }
 
 // In room that is lent a session takes no memory for what comes and goes, also where a message comes in two pieces.
 #[test]
 fn pings_in_lent_room(rt: HostRuntime) {
-    let end = pings_end(rt.alloc());
-    assert!(rt;
-        end == Some(Ended {
-            replies: 2_000,
-            rest: 0
-        })
-    );
+    assert!(rt; pings_are_answered(rt.alloc()));
+}
+
+/// A put of the longest frame that a request may have, 1,048,580 bytes, and a ping.
+const LONGEST: &[Part] = &[
+    Part::Bytes(b"\0\x10\0\0\x0b\x0a\x01b\x12\x01k\x22\xf5\xff\x3f\x0a\xf1\xff\x3f"),
+    Part::Times(1_048_561, b"\x07"),
+    Part::Bytes(PING),
+];
+
+const STORED_AND_PONG: &[Part] = &[Part::Bytes(STORED), Part::Bytes(PONG)];
+
+/// Whether a session of the longest message makes so many reads, which count for so many.
+fn longest_is_read(alloc: Global, reads: u64, made: u64) -> bool {
+    match parts_run(alloc, LONGEST, STORED_AND_PONG, 2_000_000) {
+        Some(ran) => ran.end.replies == 2 && ran.reads == reads && ran.made == made,
+        None => false,
+    }
+}
+
+// The first read brings its length. What it lacks, 1,044,484 bytes, comes by 15 reads of 65,536 bytes and one of 61,444, each of which counts for 16; the
+// ping by one of its own, behind which one meets the end.
+#[test]
+fn a_long_message_is_read_64_kib_at_a_time(rt: HostRuntime) {
+    assert!(rt; longest_is_read(rt.alloc(), 19, 258));
 }
 
 /// Whether a session goes as its row says, and takes all of its output.

@@ -139,8 +139,63 @@ const WRITE_AND_REAP: Tally = Tally {
     ..NOTHING_ACCEPTED
 };
 
+/// A get of b/k: nothing, and the dead key is forgotten behind it.
+const GETS_AND_FORGETS: &Session = &Session {
+    requests: GET,
+    replies: b"\0\0\0\x01\x0a",
+    totals: Totals {
+        gets: 1,
+        reaps: 1,
+        ..NOTHING_COUNTED
+    },
+    ..NEW_SESSION
+};
+
+/// How often a key is put and deleted in a long history.
+const ROUNDS: u32 = 5_100;
+
+/// So many writes and tombstones.
+const LONG: Tally = Tally {
+    writes: 5_100,
+    tombstones: 5_100,
+    ..NOTHING_ACCEPTED
+};
+
+/// The same, and a reap.
+const LONG_AND_REAP: Tally = Tally { reaps: 1, ..LONG };
+
 /// What comes back with deletes.
 const DELETES: &[Course] = &[
+    Course {
+        shows: "a primary that forgot a key before it was diverted is returned",
+        turns: &[
+            Turn::Serve(PUTS_AND_DELETES),
+            Turn::Call(Call::Reap(Side::Primary)),
+            has!(ALL_OF_A_LIFE, None, true),
+            Turn::Divert,
+            Turn::Serve(PUTS_G),
+            copies!(10 => 1, 0, 0),
+            finishes!(Returned),
+            has!(ALL_OF_A_LIFE, Some(ONE_WRITE), false),
+        ],
+        ..ONE_PARTITION
+    },
+    Course {
+        shows: "a partition is handed off and returned behind ten thousand events of each side",
+        budget: 1,
+        turns: &[
+            Turn::Call(Call::Serves(ROUNDS, PUTS_AND_DELETES)),
+            has!(LONG, None, true),
+            Turn::Divert,
+            Turn::Call(Call::Serves(ROUNDS, PUTS_AND_DELETES)),
+            has!(LONG, Some(LONG), true),
+            copies!(10 => 1, 0, 0),
+            finishes!(Returned),
+            Turn::Serve(GETS_AND_FORGETS),
+            has!(LONG_AND_REAP, Some(LONG), false),
+        ],
+        ..ONE_PARTITION
+    },
     Course {
         shows: "a delete before its key's copy comes back with it, and no vnode reaps until then",
         budget: 1,

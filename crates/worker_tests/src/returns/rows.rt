@@ -189,8 +189,56 @@ const GETS_FOUR: &Session = &Session {
     ..NEW_SESSION
 };
 
+/// The partition of b/k among 1,024, by the first two bytes, 56 and 73, of its digest, as Python's `hashlib` gives it.
+const INDEX_OF_K: u16 = 345;
+
+/// A get of b/k: "p", with the first dot of its vnode.
+const GETS_P: &Session = &Session {
+    requests: GET,
+    replies: b"\0\0\0\x1d\x0a\x0a\x03\x0a\x01p\x12\x15\x02\0\0\0\0\0\x01\0\0\0\0\0\x01\0\0\0\0\0\0\0\x01",
+    totals: ONE_GET,
+    ..NEW_SESSION
+};
+
 /// What comes back with puts alone.
 const RETURNS: &[Course] = &[
+    Course {
+        shows: "a partition of which nothing was asked is returned",
+        turns: &[
+            Turn::Serve(PUTS_P),
+            Turn::Divert,
+            copies!(10 => 0, 0, 0),
+            finishes!(Returned),
+            Turn::Serve(GETS_P),
+        ],
+        ..ONE_PARTITION
+    },
+    Course {
+        shows: "a mark that was left at the primary is gone when it is diverted, and no budget is too great",
+        turns: &[
+            Turn::Serve(PUTS_P),
+            Turn::Call(Call::Mark),
+            Turn::Divert,
+            Turn::Serve(PUTS_H),
+            copies!(4_294_967_295 => 1, 0, 0),
+            finishes!(Returned),
+            Turn::Serve(GETS_P_AND_H),
+        ],
+        ..ONE_PARTITION
+    },
+    Course {
+        shows: "one of 1,024 partitions is handed off and returned",
+        partitions: 1_024,
+        index: INDEX_OF_K,
+        turns: &[
+            Turn::Divert,
+            Turn::Serve(PUTS_H),
+            copies!(10 => 1, 0, 0),
+            finishes!(Returned),
+            finishes!(NotDiverted),
+        ],
+        ..ONE_PARTITION
+    },
     Course {
         shows: "what the fallback accepted is copied key by key, and then the primary answers, until a later diversion",
         turns: &[

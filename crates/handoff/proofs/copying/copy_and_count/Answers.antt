@@ -1,7 +1,7 @@
 use Rattle.std.proofs.Common.{◌≡◌, ◌∙◌, List, [], ℕ, sym, subst, length, arith}
 use Rattle.rw_gate.proofs.Prefixes.{prefix_length}
 use Rattle.handoff.specs.Copying.{AreCopies, RiseBetween}
-use Rattle.handoff.proofs.Copies.{copies-more, rise-more}
+use Rattle.handoff.proofs.Copies.{copies-more, rise-more, tried-more}
 use Rattle.handoff.proofs.copying.copy_and_count.Goals as goal
 
 pub returns-clause-copies : goal.returns-clause-copies
@@ -25,3 +25,8 @@ returns-clause-rise g c =
     let mine = c.copy_some.new.mine in
     subst (λ (ks : List ℕ). RiseBetween c.look_first-began.result ks (length c.look_left.new.mine.prefix)) (sym c.look_left.ensures.own)
     (rise-more c.look_first-began.result mine.own (length mine.prefix) (length c.look_left.new.mine.prefix) (prefix_length mine.prefix c.look_left.new.mine.prefix c.look_left.ensures.more) c.in_ok-keys.ensures.rise)
+
+pub returns-clause-tried : goal.returns-clause-tried
+returns-clause-tried g c =
+    tried-more c.args.partition.now.fallback.now.diversion c.copy_some.new.mine c.look_left.new.mine c.copy_some.new.theirs c.look_left.new.theirs _ _
+    (c.look_left.ensures.mine ∙ sym c.copy_some.ensures.mine) c.look_left.ensures.more (c.look_left.ensures.theirs ∙ sym c.copy_some.ensures.theirs) c.look_left.ensures.more_there c.in_ok-keys.ensures.tried

@@ -1,5 +1,7 @@
-use Rattle.std.proofs.Common.{◌∙◌, ◌+◌, ap, sym, arith}
-use Rattle.handoff.proofs.Copies.{step-copies, step-rises, made-length}
+use Rattle.std.proofs.Common.{◌∙◌, ◌+◌, ap, length, subst, sym, arith}
+use Rattle.handoff.specs.declared.copy_step.Step.{Step}
+use Rattle.handoff.specs.Steps.{CopiesOrStays}
+use Rattle.handoff.proofs.Copies.{step-copies, step-rises, made-length, tried-made, tried-more, tried-stuck}
 use Rattle.handoff.proofs.copying.copy_counted.Goals as goal
 
 pub returns-in-End-clause-copies : goal.returns-in-End-clause-copies
@@ -24,9 +26,37 @@ returns-in-Stuck-clause-copies g c =
 
 pub returns-in-Made-clause-more : goal.returns-in-Made-clause-more
 returns-in-Made-clause-more g c =
-    let longer = made-length c.args.partition.now.fallback.now.diversion c.args.mine.now c.copy_next.new.mine c.copy_next.new.theirs c.in_ok-step.step c.in-Made.last c.in-Made.is c.in_ok-step.ensures.step in
-    let few = c.requires.few in
-    (ap (λ n. n + 1) c.requires.keys ∙ sym longer, omega (arith, few), omega arith)
+    let longer = made-length c.args.partition.now.fallback.now.diversion c.args.mine.now c.copy_next.new.mine c.copy_next.new.theirs c.in_ok-step.step c.in-Made.last c.in-Made.is c.in_ok-step.ensures.step in (
+      ap (λ n. n + 1) c.requires.keys ∙ sym longer,
+      omega arith,
+      tried-made c.args.partition.now.fallback.now.diversion c.copy_next.new.mine c.copy_next.new.theirs c.args.keys c.args.tried
+          (tried-more c.args.partition.now.fallback.now.diversion c.args.mine.now c.copy_next.new.mine c.args.theirs.now c.copy_next.new.theirs c.args.keys c.args.tried
+          (c.copy_next.ensures.mine ∙ sym c.requires.mine) c.copy_next.ensures.more (c.copy_next.ensures.theirs ∙ sym c.requires.theirs) c.copy_next.ensures.more_there c.requires.tried),
+    )
+
+pub returns-in-Passed-clause-more : goal.returns-in-Passed-clause-more
+returns-in-Passed-clause-more g c =
+    let stays = subst (λ (s : Step). CopiesOrStays c.args.partition.now.fallback.now.diversion c.args.mine.now c.copy_next.new.mine c.copy_next.new.theirs s) c.in-Passed.is c.in_ok-step.ensures.step in (
+      c.requires.keys ∙ ap length (sym stays),
+      omega arith,
+      tried-more c.args.partition.now.fallback.now.diversion c.args.mine.now c.copy_next.new.mine c.args.theirs.now c.copy_next.new.theirs c.args.keys c.args.tried
+          (c.copy_next.ensures.mine ∙ sym c.requires.mine) c.copy_next.ensures.more (c.copy_next.ensures.theirs ∙ sym c.requires.theirs) c.copy_next.ensures.more_there c.requires.tried,
+    )
+
+pub returns-in-Stuck-clause-more : goal.returns-in-Stuck-clause-more
+returns-in-Stuck-clause-more g c =
+    let stays = subst (λ (s : Step). CopiesOrStays c.args.partition.now.fallback.now.diversion c.args.mine.now c.copy_next.new.mine c.copy_next.new.theirs s) c.in-Stuck.is c.in_ok-step.ensures.step in (
+      c.requires.keys ∙ ap length (sym stays.0),
+      omega arith,
+      tried-stuck c.args.partition.now.fallback.now.diversion c.args.mine.now c.copy_next.new.mine c.copy_next.new.theirs c.in_ok-step.step c.in-Stuck.last c.args.keys c.args.tried c.in-Stuck.is c.in_ok-step.ensures.step
+          (tried-more c.args.partition.now.fallback.now.diversion c.args.mine.now c.copy_next.new.mine c.args.theirs.now c.copy_next.new.theirs c.args.keys c.args.tried
+          (c.copy_next.ensures.mine ∙ sym c.requires.mine) c.copy_next.ensures.more (c.copy_next.ensures.theirs ∙ sym c.requires.theirs) c.copy_next.ensures.more_there c.requires.tried),
+    )
+
+pub returns-in-End-clause-tried : goal.returns-in-End-clause-tried
+returns-in-End-clause-tried g c =
+    tried-more c.args.partition.now.fallback.now.diversion c.args.mine.now c.copy_next.new.mine c.args.theirs.now c.copy_next.new.theirs c.args.keys c.args.tried
+    (c.copy_next.ensures.mine ∙ sym c.requires.mine) c.copy_next.ensures.more (c.copy_next.ensures.theirs ∙ sym c.requires.theirs) c.copy_next.ensures.more_there c.requires.tried
 
 pub returns-in-End-clause-rise : goal.returns-in-End-clause-rise
 returns-in-End-clause-rise g c =

@@ -3,7 +3,8 @@ use Rattle.handoff.proofs.copying.copy_keys.Goals as goal
 
 pub returns-in-Ok-clause-ok : goal.returns-in-Ok-clause-ok
 returns-in-Ok-clause-ok g c =
-    let few = c.in-Ok.ensures.few in
+    let all = c.in-Ok.ensures.tried in
+    let counted = all.counted in
     let budget = c.in-Ok.ensures.budget in
     record {
       gate = c.copy_and_count.ensures.mine;
@@ -12,6 +13,7 @@ returns-in-Ok-clause-ok g c =
       none = c.in-Ok.ensures.none;
       keys = c.in-Ok.ensures.keys;
       rise = c.in-Ok.ensures.rise;
-      tried = omega (arith, few, budget);
+      tried = omega (arith, counted, budget);
+      stuck = record { copies = all.copies; counted = omega (arith, counted); stuck = all.stuck };
       left = c.in-Ok.ensures.left;
     }
