@@ -1,0 +1,110 @@
+-- A session by one step is a session by another one, where each step of the one becomes a step of the other.
+use Rattle.std.proofs.Common.{◌≡◌, ℕ, List, [], ◌∷◌, Option, refl, sym, subst}
+use Rattle.std.specs.Prelude.{Result, Ok, Err}
+use Rattle.pb_frame.specs.Message.{CodedMessage}
+use Rattle.riak_msgs.specs.declared.Request.{Request}
+use Rattle.riak_msgs.specs.declared.Reply.{Reply}
+use Rattle.node_session.specs.Answers.{Answers, AnswersInTurn}
+use Rattle.node_session.specs.Answered.{AnsweredInput}
+use Rattle.node_session.specs.Courses.{Came, IsAnswering, IsIdle, IsSending, IsTelling, IsOverBy}
+use Rattle.node_session.specs.Nexts.{IsNextAnswered}
+use Rattle.node_session.specs.Sending.{Stands}
+use Rattle.node_session.specs.Session.{IsInputEnd, Stops}
+use Rattle.node_session.specs.Views.{SessionView, messages_of, replies_of}
+use Rattle.node_session.specs.declared.ended.Ended.{Ended}
+use Rattle.node_session.specs.declared.fault.SessionFault.{SessionFault}
+use Rattle.node_session.specs.declared.stage.Stage.{Stage}
+use Rattle.node_session.specs.declared.stage.Stage.TheVariants.{Answering, Sending, Telling, Flushing, Reading, Closing, Over}
+use Rattle.node_session.specs.declared.talk.Talk.{Talk}
+use Rattle.node_session.proofs.Simulating.{run_like, end_like, stops_like}
+
+module _ {S T : Type 0} (Step : S → Request → Reply → S → Type 0) (Step' : T → Request → Reply → T → Type 0) (f : S → T)
+    (step : (old : S) (request : Request) (reply : Reply) (new : S) → Step old request reply new → Step' (f old) request reply (f new)) where
+  abbrev Like : S → T → Type 0
+  Like s t = t ≡ f s
+
+  like_step : (s s' : S) (t : T) (request : Request) (reply : Reply) → Like s t → Step s request reply s' → (t' : T) × Like s' t' × Step' t request reply t'
+  like_step s s' t request reply like made = (f s', refl, subst (λ (x : T). Step' x request reply (f s')) (sym like) (step s request reply s' made))
+
+  run_by : (s s' : S) (ms : List CodedMessage) (rs : List Reply) → AnswersInTurn Step s ms rs s' → AnswersInTurn Step' (f s) ms rs (f s')
+  run_by s s' ms rs run =
+      let made = run_like Step Step' Like like_step s s' (f s) ms rs refl run in
+      subst (λ (t : T). AnswersInTurn Step' (f s) ms rs t) made.1 made.2
+
+  answers_by : (s s' : S) (m : CodedMessage) (reply : Reply) → Answers Step s m reply s' → Answers Step' (f s) m reply (f s')
+  answers_by s s' m reply a =
+      let made = run_by s s' (m ∷ []) (reply ∷ []) (s', a, refl) in
+      subst (λ (t : T). Answers Step' (f s) m reply t) (sym made.2) made.1
+
+  stands_by : (first now : S) (held held' : Option (List ℕ)) (s : SessionView) → Stands Step first now held held' s → Stands Step' (f first) (f now) held held' s
+  stands_by first now held held' s h = record { run = run_by first now (messages_of s.exchanges) (replies_of s.exchanges) h.run; written = h.written }
+
+  next_by : (node node' : S) (old new : SessionView) → IsNextAnswered Step node node' old new → IsNextAnswered Step' (f node) (f node') old new
+  next_by node node' old new h = record {
+    exchange = h.exchange;
+    front = h.front;
+    within = h.within;
+    answers = answers_by node node' _ h.exchange.reply h.answers;
+    input = h.input;
+    exchanges = h.exchanges;
+    fault = h.fault;
+    framed = h.framed;
+    unsent = h.unsent;
+  }
+
+  module _ (first now : S) (unread unread' held held' : Option (List ℕ)) where
+    answering_by : (s : SessionView) (replies made most : ℕ) → IsAnswering Step first now unread unread' held held' s replies made most → IsAnswering Step' (f first) (f now) unread unread' held held' s replies made most
+    answering_by s replies made most h = record { read = h.read; stands = stands_by first now held held' s h.stands; going = h.going }
+
+    idle_by : (s : SessionView) (replies made most : ℕ) → IsIdle Step first now unread unread' held held' s replies made most → IsIdle Step' (f first) (f now) unread unread' held held' s replies made most
+    idle_by s replies made most h = record { answering = answering_by s replies made most h.answering; partial = h.partial }
+
+    sending_by : (s : SessionView) (replies made most : ℕ) → IsSending Step first now unread unread' held held' s replies made most → IsSending Step' (f first) (f now) unread unread' held held' s replies made most
+    sending_by s replies made most h = record {
+      mid = f h.mid;
+      before = h.before;
+      whole = h.whole;
+      written = h.written;
+      read = h.read;
+      was_read = h.was_read;
+      stands = stands_by first h.mid held h.written h.before h.stands;
+      going = h.going;
+      one = next_by h.mid now h.before h.whole h.one;
+      part = h.part;
+    }
+
+    telling_by : (s : SessionView) (replies made most : ℕ) → IsTelling Step first now unread unread' held held' s replies made most → IsTelling Step' (f first) (f now) unread unread' held held' s replies made most
+    telling_by s replies made most h = record {
+      before = h.before;
+      whole = h.whole;
+      written = h.written;
+      read = h.read;
+      was_read = h.was_read;
+      stands = stands_by first now held h.written h.before h.stands;
+      going = h.going;
+      bad = h.bad;
+      part = h.part;
+    }
+
+    pub end_by : (input : List ℕ) (count len : ℕ) → AnsweredInput Step first input held held' count (IsInputEnd now len) → AnsweredInput Step' (f first) input held held' count (IsInputEnd (f now) len)
+    end_by input count len h =
+        let made = end_like Step Step' Like like_step first now (f first) input held held' count len refl h in
+        subst (λ (t : T). AnsweredInput Step' (f first) input held held' count (IsInputEnd t len)) made.1 made.2
+
+    pub stops_by : (input : List ℕ) (fault : SessionFault) → Stops Step first now input held held' fault → Stops Step' (f first) (f now) input held held' fault
+    stops_by input fault h =
+        let made = stops_like Step Step' Like like_step first now (f first) input held held' fault refl h in
+        subst (λ (t : T). Stops Step' (f first) t input held held' fault) made.1 made.2
+
+    pub over_by : (most : ℕ) (result : Result Ended SessionFault) → IsOverBy Step first now unread unread' held held' most result → IsOverBy Step' (f first) (f now) unread unread' held held' most result
+    over_by most (Ok e) h = (record { input = h.0.input; read = h.0.read; bound = h.0.bound; serves = end_by h.0.input e.replies e.rest h.0.serves }, h.1)
+    over_by most (Err fault) h = (record { input = h.0.input; read = h.0.read; bound = h.0.bound; serves = stops_by h.0.input fault h.0.serves }, h.1)
+
+    pub came_by : (stage : Stage) (talk : Talk) → Came Step first now unread unread' held held' stage talk → Came Step' (f first) (f now) unread unread' held held' stage talk
+    came_by Answering talk h = answering_by talk.session talk.replies talk.made talk.most h
+    came_by Sending talk h = sending_by talk.session talk.replies talk.made talk.most h
+    came_by Telling talk h = telling_by talk.session talk.replies talk.made talk.most h
+    came_by Flushing talk h = idle_by talk.session talk.replies talk.made talk.most h
+    came_by Reading talk h = idle_by talk.session talk.replies talk.made talk.most h
+    came_by (Closing fault) talk h = over_by talk.most (Err fault) h
+    came_by (Over result) talk h = over_by talk.most result h

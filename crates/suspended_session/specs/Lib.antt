@@ -1,0 +1,4 @@
+-- The definitions of this crate.
+pub mod Resuming
+pub mod Suspending
+pub mod Leaving
