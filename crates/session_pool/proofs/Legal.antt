@@ -1,0 +1,115 @@
+-- The sessions of a run whose passes have seen beginnings of histories are by steps in these; and where no partition has a fallback, by the register's.
+use Rattle.std.proofs.Common.{◌≡◌, ◌≤◌, ◌<◌, ◌∙◌, ℕ, List, [], ◌∷◌, length, refl, sym, ap, subst}
+use Rattle.std.proofs.lemmas.List.Elements.{All-cons, All-head, All-nil}
+use Rattle.std.specs.Prelude.{Bool, true, false, Option, Some, None, Result, Ok, Err, slice_get, slice_set, zero, suc}
+use Rattle.std.specs.List.{All, AllZip}
+use Rattle.vnode_core.specs.declared.vnode.tally.Tally.{Tally}
+use Rattle.riak_msgs.specs.declared.Request.{Request}
+use Rattle.riak_msgs.specs.declared.Reply.{Reply}
+use Rattle.node_session.specs.Courses.{IsOverBy}
+use Rattle.node_session.specs.declared.ended.Ended.{Ended}
+use Rattle.node_session.specs.declared.fault.SessionFault.{SessionFault}
+use Rattle.handoff.specs.Partitions.{AreNone, AreOfNewRun, IsDiverted}
+use Rattle.handoff.specs.Partitions.{HandoffView}
+use Rattle.gate_node.specs.Gates.{Gates, handoff_of}
+use Rattle.gate_node.specs.GateStep.{NodeOverGates}
+use Rattle.gate_node.specs.OneHistory.{IsSeen, ShareHistories, StepIn}
+use Rattle.gate_node.specs.Passes.{Sights, ArePassesOf}
+use Rattle.gate_node.specs.Plain.{AnswersAsRegister, AreOfCommands}
+use Rattle.gate_node.specs.Tallies.{GateHistory}
+use Rattle.gate_node.proofs.Keeping.{step-keeps}
+use Rattle.gate_node.proofs.Plain.{plain_step, tallies_plain}
+use Rattle.gate_node.proofs.Histories.{each_seen}
+use Rattle.session_pool.specs.declared.left.EndedSession.{EndedSession}
+use Rattle.session_pool.specs.Leaving.{EndsOver, IsEndOf}
+use Rattle.session_pool.specs.Legal.{AnswersLegally, ToldSessionIsLegal}
+use Rattle.session_pool.specs.Resuming.{AreDiverted, IsLater, RunStep, RunStepIn}
+use Rattle.session_pool.specs.Suspending.{Origin, SuspendedView, first_node}
+use Rattle.session_pool.specs.Telling.{ToldSession, IsToldSession, with_passes}
+use Rattle.session_pool.proofs.Mapping.{over_by}
+use Rattle.session_pool.proofs.Resuming.{end_at, stop_at}
+use Rattle.session_pool.proofs.Tellers.{seen_less}
+
+none_set : {A : Type 0} (xs : List (Option A)) (i : ℕ) (place : Option A) (x : A) → slice_get xs i ≡ Some place → AreNone (slice_set xs i (Some x)) → ⊥
+none_set [] i place x is none = absurd (cc is)
+none_set (y ∷ xs) zero place x is none = absurd (cc none.0)
+none_set (y ∷ xs) (suc i) place x is none = none_set xs i place x is none.1
+
+none_through : (indices : List ℕ) (old new : Gates) → AreDiverted indices old new → AreNone new.fallbacks → new ≡ old
+none_through [] old new same none = same
+none_through (index ∷ indices) old new h none =
+    let mid = h.0 in
+    let later = none_through indices mid new h.2 none in
+    let here : AreNone mid.fallbacks = subst (λ (gates : Gates). AreNone gates.fallbacks) later none in
+    let diverted = h.1.handoff in
+    let set : mid.fallbacks ≡ slice_set old.fallbacks index (Some diverted.fallback) = ap (λ (view : HandoffView). view.fallbacks) diverted.is in
+    absurd (none_set old.fallbacks index diverted.before diverted.fallback diverted.stood (subst AreNone set here))
+
+-- where no partition has a fallback, none was diverted
+none_later : (old new : Gates) → IsLater old new → AreNone new.fallbacks → new ≡ old
+none_later old new later = none_through later.0 old new later.1
+
+module _ (histories : List GateHistory) (shared : Gates) (none : AreNone shared.fallbacks) (are : AreOfCommands histories) where
+  step_as : (old : NodeOverGates) (request : Request) (reply : Reply) (new : NodeOverGates) → RunStepIn histories shared old request reply new → AnswersAsRegister shared histories old request reply new
+  step_as old request reply new h =
+      let on = h.0 in
+      let goes = h.1 in
+      let there : shared ≡ on.shared = none_later on.shared shared h.2 none in
+      let here : on.shared ≡ old.shared = none_later old.shared on.shared goes.later (subst (λ (gates : Gates). AreNone gates.fallbacks) there none) in
+      let same : on ≡ old = λ i. record { shared = here i; passes = goes.passes i; count = goes.count i } in
+      subst (λ (node : NodeOverGates). AnswersAsRegister shared histories node request reply new) same (plain_step shared histories on request reply new none are (sym there) h.3)
+
+module _ {R W : Type 0} (remaining : R → Option (List ℕ)) (contents : W → Option (List ℕ)) (histories : List GateHistory) (shared : Gates) where
+  over_at : (origin : Origin) (after : NodeOverGates) (u u' h h' : Option (List ℕ)) (most : ℕ) (result : Result Ended SessionFault) → AllZip IsSeen histories after.passes.primaries × IsLater after.shared shared
+      → IsOverBy RunStep (first_node origin) after u u' h h' most result → IsOverBy (RunStepIn histories shared) (first_node origin) after u u' h h' most result
+  over_at origin after u u' h h' most (Ok e) reaches p =
+      (record { input = p.0.input; read = p.0.read; bound = p.0.bound; serves = end_at histories shared (first_node origin) after p.0.input h h' e.replies e.rest p.0.serves reaches }, p.1)
+  over_at origin after u u' h h' most (Err fault) reaches p =
+      (record { input = p.0.input; read = p.0.read; bound = p.0.bound; serves = stop_at histories shared (first_node origin) after p.0.input h h' fault p.0.serves reaches }, p.1)
+
+  -- a session whose passes have seen beginnings of histories is by steps in these
+  pub ends_at : (origin : Origin) (ended : EndedSession R W) (after : NodeOverGates) → AllZip IsSeen histories ended.passes.primaries → EndsOver remaining contents shared RunStep origin ended after → EndsOver remaining contents shared (RunStepIn histories shared) origin ended after
+  ends_at origin ended after saw h =
+      let reaches = (subst (λ (ps : Sights). AllZip IsSeen histories ps.primaries) (sym h.left) saw, h.reaches) in
+      record {
+        from = h.from;
+        later = h.later;
+        reaches = h.reaches;
+        left = h.left;
+        kept = h.kept;
+        session = over_at origin after origin.unread (remaining ended.reader) origin.held (contents ended.writer) origin.gates.reads ended.result reaches h.session;
+      }
+
+  pub told_at : (given : List (SuspendedView R W)) (seen : Sights) (one : ToldSession R W) → AllZip IsSeen histories seen.primaries → IsToldSession remaining contents shared given seen one
+      → IsEndOf remaining contents shared (RunStepIn histories shared) one.session one.counted false (with_passes one.end one.passes one.session.origin)
+  told_at given seen one saw h = record {
+    after = h.ends.after;
+    ends = ends_at one.session.origin (with_passes one.end one.passes one.session.origin) h.ends.after (seen_less histories seen.primaries one.passes.primaries saw h.covered) h.ends.ends;
+    counts = h.ends.counts;
+  }
+
+pub told_is_legal : {R W : Type 0} (remaining : R → Option (List ℕ)) (contents : W → Option (List ℕ)) (shared : Gates) (given : List (SuspendedView R W)) (seen : Sights) (one : ToldSession R W) → ToldSessionIsLegal remaining contents shared given seen one
+told_is_legal remaining contents shared given seen one tallies count_all new none all kept shares h =
+    let histories = shares.histories in
+    let plain = tallies_plain shared histories tallies new none shares.of_gates shares.tallied (shares.counted all) in
+    let Kept : Sights → Type 0 = λ sights. ArePassesOf shared sights in
+    let callers = All-cons Kept seen [] kept (All-nil Kept) in
+    let saw = All-head (λ (sights : Sights). AllZip IsSeen histories sights.primaries) seen [] (each_seen (λ (s : Sights). s) shared histories shares.of_gates (seen ∷ []) callers shares.seen) in
+    let at = told_at remaining contents histories shared given seen one saw h in
+    let ended = with_passes one.end one.passes one.session.origin in
+    record {
+      histories = histories;
+      legal = plain.legal;
+      ends = record {
+        after = at.after;
+        ends = record {
+          from = at.ends.from;
+          later = at.ends.later;
+          reaches = at.ends.reaches;
+          left = at.ends.left;
+          kept = at.ends.kept;
+          session = over_by (RunStepIn histories shared) (AnswersAsRegister shared histories) (λ node. node) (step_as histories shared none plain.commands) (first_node one.session.origin) at.after one.session.origin.unread (remaining one.end.reader) one.session.origin.held (contents one.end.writer) one.session.origin.gates.reads one.end.result at.ends.session;
+        };
+        counts = at.counts;
+      };
+    }

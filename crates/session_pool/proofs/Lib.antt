@@ -1,0 +1,11 @@
+-- The lemmas of this crate.
+pub mod Keeping
+pub mod Mapping
+pub mod Shifting
+pub mod Resuming
+pub mod Resting
+pub mod Tellers
+pub mod Stations
+pub mod Gathering
+pub mod Told
+pub mod Legal

@@ -1,0 +1,67 @@
+-- What workers are started with, and what is taken apart of what they leave.
+use Rattle.std.proofs.Common.{◌≡◌, ◌∙◌, ◌+◌, ℕ, Bool, List, [], ◌∷◌, ◌++◌, length, map, arith, sym, ap, subst}
+use Rattle.std.proofs.lemmas.List.{map-append, length-append}
+use Rattle.std.specs.Prelude.{◌||◌, zero, suc, replicate}
+use Rattle.job_pool.specs.Lists.{Every}
+use Rattle.job_pool.specs.declared.worker.NumberedEnd.{NumberedEnd}
+use Rattle.gate_node.specs.Gates.{Gates}
+use Rattle.gate_node.specs.Merging.{HaveSeenAllOf}
+use Rattle.gate_node.specs.Passes.{Sights}
+use Rattle.session_pool.specs.declared.end_sink.SessionEnd.{SessionEnd}
+use Rattle.session_pool.specs.Suspending.{SuspendedView}
+use Rattle.session_pool.specs.Tellers.{TellerView, TellerStands, IsCovered, AreApart, sink_of, resting_of, are_full}
+use Rattle.session_pool.proofs.Tellers.{every_more, every_by, gates_kept, or_assoc, or_none, seen_through}
+
+every_front : {A : Type 0} (P : A → Type 0) (xs : List A) (x : A) → Every P (xs ++ x ∷ []) → Every P xs × P x
+every_front P [] x h = (tt, h.0)
+every_front P (y ∷ xs) x h = let rest = every_front P xs x h.1 in ((h.0, rest.0), rest.1)
+
+pub every_replicate : {A : Type 0} (n : ℕ) (x : A) (xs : List A) → xs ≡ replicate n x → Every (λ (y : A). y ≡ x) xs
+every_replicate zero x [] is = tt
+every_replicate zero x (y ∷ xs) is = absurd (cc is)
+every_replicate (suc n) x [] is = absurd (cc is)
+every_replicate (suc n) x (y ∷ xs) is = (cc is, every_replicate n x xs (cc is))
+
+module _ {S U T : Type 0} (Z : S → Type 0) (N : U → Type 0) (P Q : T → Type 0) where
+  -- so many stations stand, and for each seat that is left a stock is
+  abbrev pub AreStarted : List S → List U → List T → ℕ → Type 0
+  AreStarted left seats stations count = Every Z left × Every N seats × Every P stations × Every Q stations × (length left ≡ length seats) × (length stations + length seats ≡ count)
+
+  pub started_more : (left left' : List S) (stock : S) (seats seats' : List U) (seat : U) (stations stations' : List T) (station : T) (count : ℕ)
+      → left ≡ left' ++ stock ∷ [] → seats ≡ seat ∷ seats' → stations' ≡ stations ++ station ∷ [] → AreStarted left seats stations count → P station → (Z stock → Q station) → AreStarted left' seats' stations' count
+  started_more left left' stock seats seats' seat stations stations' station count is next more h new worker =
+      let stocks = every_front Z left' stock (subst (Every Z) is h.0) in
+      let rest = subst (Every N) next h.1 in
+      let sizes : length stations' ≡ length stations + 1 = ap length more ∙ length-append stations (station ∷ []) in
+      let before : length seats ≡ length (seat ∷ seats') = ap length next in
+      let stocks_before : length left ≡ length left' + 1 = ap length is ∙ length-append left' (stock ∷ []) in (
+        stocks.0,
+        rest.1,
+        subst (Every P) (sym more) (every_more P stations station h.2 new),
+        subst (Every Q) (sym more) (every_more Q stations station h.3 (worker stocks.1)),
+        omega (arith, before, stocks_before, h.4),
+        omega (arith, sizes, before, h.5),
+      )
+
+module _ {R W K : Type 0} (told : K → List (NumberedEnd (SessionEnd R W))) (gates : Gates) where
+  full_behind : (tellers : List (TellerView R W K)) (teller : TellerView R W K) → are_full (tellers ++ teller ∷ []) ≡ (are_full tellers || teller.book_full)
+  full_behind [] teller = or_none teller.book_full
+  full_behind (other ∷ tellers) teller = ap (λ b. other.book_full || b) (full_behind tellers teller) ∙ or_assoc other.book_full (are_full tellers) teller.book_full
+
+  covered_on : (more less : Sights) (teller : TellerView R W K) → HaveSeenAllOf more less → IsCovered told gates less teller → IsCovered told gates more teller
+  covered_on more less teller mine h = record { stands = h.stands; covers = seen_through more.primaries less.primaries teller.seen.primaries mine h.covers }
+
+  pub apart_more : (done : List (TellerView R W K)) (teller : TellerView R W K) (sinks sinks' : List K) (sink : K) (resting resting' : List (List (SuspendedView R W))) (rest : List (SuspendedView R W)) (full full' its : Bool) (first seen seen' passes : Sights)
+      → AreApart told gates done sinks resting full first seen
+      → TellerStands told gates teller → sinks' ≡ sinks ++ sink ∷ [] → sink ≡ teller.sink → resting' ≡ resting ++ rest ∷ [] → rest ≡ teller.resting → full' ≡ (full || its) → its ≡ teller.book_full
+      → passes ≡ teller.seen → HaveSeenAllOf seen' seen → HaveSeenAllOf seen' passes → seen'.fallbacks ≡ seen.fallbacks
+      → AreApart told gates (done ++ teller ∷ []) sinks' resting' full' first seen'
+  apart_more done teller sinks sinks' sink resting resting' rest full full' its first seen seen' passes h stands more is rests rest_is full_is its_is seen_is mine theirs same = record {
+    stand = every_more (IsCovered told gates seen') done teller (every_by (IsCovered told gates seen) (IsCovered told gates seen') (λ one was. covered_on seen' seen one mine was) done h.stand)
+        (record { stands = stands; covers = subst (λ (ps : Sights). HaveSeenAllOf seen' ps) seen_is theirs });
+    sinks_are = more ∙ ap (λ (k : K). sinks ++ k ∷ []) is ∙ ap (λ (l : List K). l ++ teller.sink ∷ []) h.sinks_are ∙ sym (map-append sink_of done (teller ∷ []));
+    resting_are = rests ∙ ap (λ (l : List (SuspendedView R W)). resting ++ l ∷ []) rest_is ∙ ap (λ (l : List (List (SuspendedView R W))). l ++ teller.resting ∷ []) h.resting_are ∙ sym (map-append resting_of done (teller ∷ []));
+    full_is = full_is ∙ ap (λ (b : Bool). full || b) its_is ∙ ap (λ (b : Bool). b || teller.book_full) h.full_is ∙ sym (full_behind done teller);
+    more = seen_through seen'.primaries seen.primaries first.primaries mine h.more;
+    kept = gates_kept gates seen seen' h.kept mine same;
+  }

@@ -1,0 +1,137 @@
+-- What a run of the pool comes to.
+use Rattle.std.proofs.Common.{arith, ◌≡◌, ◌∙◌, ◌+◌, ◌⊎◌, ℕ, List, [], ◌∷◌, length, map, refl, sym, ap, subst, inl, inr}
+use Rattle.std.proofs.lemmas.List.{length-map}
+use Rattle.std.specs.Prelude.{◌||◌, Bool, true, false, Option, Some, Result, slice_get}
+use Rattle.job_pool.specs.Giving.{GaveAll, Leaves}
+use Rattle.job_pool.specs.Lists.{Every, Pairwise, concat}
+use Rattle.job_pool.specs.Turns.{ServedTurn, WorkerTurns, TurnChain, IsChain, firsts_of, lasts_of}
+use Rattle.job_pool.specs.Ends.{IsTurnOfGiven, IsTold, told_by, weight_told, weight_refused}
+use Rattle.job_pool.specs.Telling.{ToldOnce}
+use Rattle.job_pool.specs.declared.fault.RunFault.{RunFault}
+use Rattle.job_pool.specs.declared.fault.RunFault.TheVariants as runs
+use Rattle.job_pool.specs.declared.jobs.JobFault.{JobFault}
+use Rattle.job_pool.specs.declared.worker.NumberedEnd.{NumberedEnd}
+use Rattle.stats_book.specs.Counting.{sum_of, zeros}
+use Rattle.stats_book.specs.declared.totals.Totals.{Totals}
+use Rattle.gate_node.specs.Gates.{Gates}
+use Rattle.gate_node.specs.Merging.{HaveSeenAllOf}
+use Rattle.gate_node.specs.Passes.{Sights}
+use Rattle.gate_node.specs.declared.fault.PoolFault.{PoolFault}
+use Rattle.gate_node.specs.declared.fault.PoolFault.TheVariants.{NoMemory, NoThread, JobsFailed, BookFull}
+use Rattle.session_pool.specs.declared.end_sink.SessionEnd.{SessionEnd}
+use Rattle.session_pool.specs.declared.host.LeftSession.{LeftSession}
+use Rattle.session_pool.specs.declared.served.Served.{Served}
+use Rattle.session_pool.specs.Serving.{CountsInStay}
+use Rattle.session_pool.specs.Settling.{Settles, IsFaultAfterTold, pool_fault}
+use Rattle.session_pool.specs.Suspending.{SuspendedView}
+use Rattle.session_pool.specs.Tellers.{TellerView, TellerStands, IsCovered, is_full, are_full, sink_of, resting_of, told_to}
+use Rattle.session_pool.specs.Telling.{TellsSource, LeavesTold, GavePastFullBook, weight_rested}
+use Rattle.session_pool.proofs.Gathering.{all_gathered}
+
+pub every_map : {A B : Type 0} (f : A → B) (P : B → Type 0) (xs : List A) → Every (λ (x : A). P (f x)) xs → Every P (map f xs)
+every_map f P [] h = tt
+every_map f P (x ∷ xs) h = (h.0, every_map f P xs h.1)
+
+pairwise_length : {A B : Type 0} (R : A → B → Type 0) (xs : List A) (ys : List B) → Pairwise R xs ys → length xs ≡ length ys
+pairwise_length R [] [] h = refl
+pairwise_length R [] (y ∷ ys) h = absurd h
+pairwise_length R (x ∷ xs) [] h = absurd h
+pairwise_length R (x ∷ xs) (y ∷ ys) h = let rest = pairwise_length R xs ys h.1 in omega (arith, rest)
+
+or_true : (a b : Bool) → (a || b) ≡ true → (a ≡ true) ⊎ (b ≡ true)
+or_true true b h = inl refl
+or_true false b h = inr h
+
+module _ {J R W K : Type 0} (Gives : J → Result (Option (SuspendedView R W)) JobFault → J → Type 0) (may_rest : Type 0) (remaining : R → Option (List ℕ)) (contents : W → Option (List ℕ)) (told : K → List (NumberedEnd (SessionEnd R W))) (shared : Gates) (first last : J) where
+  abbrev Counts : Totals → SuspendedView R W → Totals → LeftSession R W → Type 0
+  Counts = CountsInStay may_rest remaining contents shared
+
+  module _ (given : List (SuspendedView R W)) (gave : GaveAll Gives first given last) where
+    full_turn : (before after : Totals) (turns : List (ServedTurn Totals (SuspendedView R W) (LeftSession R W))) (ends : List (NumberedEnd (LeftSession R W))) → TurnChain Counts before turns after → Pairwise (IsTurnOfGiven given) turns ends → is_full ends ≡ true
+        → GavePastFullBook Gives may_rest remaining contents shared first last
+    full_turn before after [] [] chain h full = absurd (cc full)
+    full_turn before after [] (one ∷ ends) chain h full = absurd h
+    full_turn before after (turn ∷ turns) [] chain h full = absurd h
+    full_turn before after (turn ∷ turns) (one ∷ ends) chain h full = elim (or_true one.end.book_full (is_full ends) full) [
+      | inl here ↦ record {
+        given = given;
+        all = gave;
+        number = one.number;
+        session = turn.job;
+        is = h.0.at;
+        before = turn.before;
+        after = turn.after;
+        one = turn.end;
+        counts = chain.1;
+        full = ap (λ (e : LeftSession R W). e.book_full) h.0.end ∙ here;
+      }
+      | inr later ↦ full_turn turn.after after turns ends chain.2 h.1 later
+    ]
+
+    full_session : (seen : Sights) (shares : List (WorkerTurns Totals (SuspendedView R W) (LeftSession R W))) (tellers : List (TellerView R W K)) → Every (IsChain Counts) shares → Pairwise (IsTold told_to given) shares tellers
+        → Every (IsCovered told shared seen) tellers → are_full tellers ≡ true → GavePastFullBook Gives may_rest remaining contents shared first last
+    full_session seen [] [] chained each stand full = absurd (cc full)
+    full_session seen [] (teller ∷ tellers) chained each stand full = absurd each
+    full_session seen (share ∷ shares) [] chained each stand full = absurd each
+    full_session seen (share ∷ shares) (teller ∷ tellers) chained each stand full = elim (or_true teller.book_full (are_full tellers) full) [
+      | inl here ↦ full_turn share.first share.last share.turns teller.told chained.0 each.0 (sym stand.0.stands.full ∙ here)
+      | inr later ↦ full_session seen shares tellers chained.1 each.1 stand.1 later
+    ]
+
+    module _ (firsts workers : List Totals) (tellers : List (TellerView R W K)) (count away : ℕ) (once : ToldOnce Counts told_to given firsts workers tellers count away) where
+      -- there are as many sinks and states as workers were started
+      pub tellers_count : length tellers ≡ length firsts
+      tellers_count = sym (pairwise_length (IsTold told_to given) once.shares tellers once.each) ∙ sym (length-map once.shares (λ (share : WorkerTurns Totals (SuspendedView R W) (LeftSession R W)). share.first)) ∙ ap length once.began
+
+      pub workers_count : length workers ≡ length firsts
+      workers_count = sym (ap length once.left) ∙ length-map once.shares (λ (share : WorkerTurns Totals (SuspendedView R W) (LeftSession R W)). share.last)
+          ∙ sym (length-map once.shares (λ (share : WorkerTurns Totals (SuspendedView R W) (LeftSession R W)). share.first)) ∙ ap length once.began
+
+      module _ (before seen : Sights) (more : HaveSeenAllOf seen before) where
+        -- what the workers' run told, and what is left of it
+        pub tells_source : Every (λ (t : Totals). t ≡ zeros) firsts → (served : Served R W K) → Settles told shared workers tellers count away seen served → TellsSource may_rest remaining contents told shared Gives first before served last seen
+        tells_source zero served left =
+            let began = subst (Every (λ (t : Totals). t ≡ zeros)) (sym once.began) zero in
+            let all = all_gathered may_rest remaining contents shared given seen told once.shares tellers began once.chained once.each left.stand left.whole in
+            let sinks : told_by told served.sinks.items ≡ told_by told (map sink_of tellers) = ap (told_by told) left.sinks in
+            let refused : served.refused ≡ length once.refusals = left.refused ∙ once.others in (
+              given,
+              gave,
+              record {
+                ended = all.ended;
+                rested = all.rested;
+                refusals = once.refusals;
+                tells = all.tells_are ∙ sym sinks;
+                each = all.each;
+                rests = all.rests ∙ ap concat (sym left.resting);
+                each_rests = all.each_rests;
+                once = λ w.
+                    let tells : weight_told w (told_by told served.sinks.items) ≡ weight_told w (told_by told (map sink_of tellers)) = ap (weight_told w) sinks in
+                    let weighs = all.weighs w in
+                    let is = once.once w in
+                    omega (arith, tells, weighs, is);
+                accepted = left.accepted ∙ once.all;
+                refused = refused;
+                all =
+                    let many = all.many in
+                    let counted = once.counted in
+                    let given_count = left.accepted in
+                    let away_count = left.refused in
+                    omega (arith, many, counted, given_count, away_count);
+                seen_on = more;
+                totals = left.totals ∙ ap sum_of (sym once.left) ∙ all.sums;
+              },
+            )
+
+      -- and where it ends behind that
+      pub leaves_told : (seen : Sights) (fault : PoolFault) → IsFaultAfterTold told shared tellers seen fault → LeavesTold Gives may_rest remaining contents shared fault first last
+      leaves_told seen NoMemory h = (given, inr gave)
+      leaves_told seen NoThread h = absurd h
+      leaves_told seen JobsFailed h = absurd h
+      leaves_told seen BookFull h = full_session seen once.shares tellers once.chained once.each h.1 h.0
+
+  -- what is left of the source where the run of the workers ends by a fault
+  pub leaves_by : (fault : RunFault) → Leaves Gives fault first last → LeavesTold Gives may_rest remaining contents shared (pool_fault fault) first last
+  leaves_by runs.NoMemory h = h
+  leaves_by runs.NoThread h = h
+  leaves_by runs.JobsFailed h = h

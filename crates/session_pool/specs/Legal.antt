@@ -1,0 +1,27 @@
+-- What sessions of a run over partitions without fallbacks reply: at positions of legal histories of the sibling register.
+use Rattle.std.specs.Prelude.{◌≡◌, ℕ, Bool, true, false, List, [], ◌∷◌, Option}
+use Rattle.std.specs.List.{AllZip}
+use Rattle.vnode_core.specs.declared.vnode.tally.Tally.{Tally}
+use Rattle.handoff.specs.Partitions.{AreNone, AreOfNewRun}
+use Rattle.gate_node.specs.Gates.{Gates}
+use Rattle.gate_node.specs.OneHistory.{ShareHistories}
+use Rattle.gate_node.specs.Passes.{Sights, ArePassesOf}
+use Rattle.gate_node.specs.Plain.{AnswersAsRegister, AreLegal}
+use Rattle.gate_node.specs.Tallies.{GateHistory}
+use Rattle.session_pool.specs.Leaving.{IsEndOf}
+use Rattle.session_pool.specs.Suspending.{SuspendedView}
+use Rattle.session_pool.specs.Telling.{ToldSession, IsToldSession, with_passes}
+
+module _ {R W : Type 0} (remaining : R → Option (List ℕ)) (contents : W → Option (List ℕ)) (shared : Gates) where
+  -- there are histories of the vnodes, legal for the sibling register, and the session is by steps of that among others, in these
+  pub record AnswersLegally (one : ToldSession R W) : Type 0 where
+    pub histories : List GateHistory
+    pub legal : AreLegal shared histories
+    pub ends : IsEndOf remaining contents shared (AnswersAsRegister shared histories) one.session one.counted false (with_passes one.end one.passes one.session.origin)
+
+  -- so it is where no partition of a new run has a fallback, and tallies which count all of the histories are of what these passes have seen
+  abbrev pub ToldSessionIsLegal : List (SuspendedView R W) → Sights → ToldSession R W → Type 0
+  ToldSessionIsLegal given seen one = (tallies : List Tally) (count_all : Bool)
+      → AreOfNewRun shared.run shared.gates → AreNone shared.fallbacks → count_all ≡ true → ArePassesOf shared seen
+      → ShareHistories (λ (s : Sights). s) shared.gates (seen ∷ []) tallies count_all
+      → IsToldSession remaining contents shared given seen one → AnswersLegally one

@@ -1,0 +1,41 @@
+-- What is left of the workers of a run that were joined.
+use Rattle.std.specs.Prelude.{◌≡◌, ℕ, true, false, List, map}
+use Rattle.job_pool.specs.Lists.{Every}
+use Rattle.job_pool.specs.declared.fault.RunFault.{RunFault}
+use Rattle.job_pool.specs.declared.fault.RunFault.TheVariants as runs
+use Rattle.job_pool.specs.declared.worker.NumberedEnd.{NumberedEnd}
+use Rattle.stats_book.specs.Counting.{sum_of}
+use Rattle.stats_book.specs.declared.totals.Totals.{Totals}
+use Rattle.gate_node.specs.Gates.{Gates}
+use Rattle.gate_node.specs.Merging.{HaveSeenAllOf}
+use Rattle.gate_node.specs.Passes.{Sights}
+use Rattle.gate_node.specs.declared.fault.PoolFault.{PoolFault}
+use Rattle.gate_node.specs.declared.fault.PoolFault.TheVariants.{NoMemory, NoThread, JobsFailed, BookFull}
+use Rattle.session_pool.specs.declared.end_sink.SessionEnd.{SessionEnd}
+use Rattle.session_pool.specs.declared.served.Served.{Served}
+use Rattle.session_pool.specs.Suspending.{SuspendedView}
+use Rattle.session_pool.specs.Tellers.{TellerView, IsCovered, are_full, sink_of, resting_of}
+
+-- the fault for a fault of the workers' run
+abbrev pub pool_fault : RunFault → PoolFault
+pool_fault runs.NoMemory = NoMemory
+pool_fault runs.NoThread = NoThread
+pool_fault runs.JobsFailed = JobsFailed
+
+module _ {R W K : Type 0} (told : K → List (NumberedEnd (SessionEnd R W))) (gates : Gates) where
+  -- what is left of workers with these states and these tellers, where the book was never full
+  pub record Settles (workers : List Totals) (tellers : List (TellerView R W K)) (given away : ℕ) (seen : Sights) (served : Served R W K) : Type 0 where
+    pub stand : Every (IsCovered told gates seen) tellers
+    pub whole : are_full tellers ≡ false
+    pub sinks : served.sinks.items ≡ map sink_of tellers
+    pub resting : map (λ one. one.items) served.resting.items ≡ map resting_of tellers
+    pub totals : served.totals ≡ sum_of workers
+    pub accepted : served.accepted ≡ given
+    pub refused : served.refused ≡ away
+
+  -- why nothing is left
+  abbrev pub IsFaultAfterTold : List (TellerView R W K) → Sights → PoolFault → Type 0
+  IsFaultAfterTold tellers seen NoMemory = Unit {0}
+  IsFaultAfterTold tellers seen NoThread = ⊥
+  IsFaultAfterTold tellers seen JobsFailed = ⊥
+  IsFaultAfterTold tellers seen BookFull = (are_full tellers ≡ true) × Every (IsCovered told gates seen) tellers

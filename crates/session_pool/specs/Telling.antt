@@ -1,0 +1,123 @@
+-- What a run of the pool comes to.
+use Rattle.std.specs.Prelude.{◌≡◌, ◌+◌, ℕ, Bool, true, false, List, [], ◌∷◌, Option, Some, Result, length, map, slice_get}
+use Rattle.job_pool.specs.Ends.{told_by, weight_told, weight_refused}
+use Rattle.job_pool.specs.Giving.{GaveAll, GaveSome, GaveThenFailed}
+use Rattle.job_pool.specs.Lists.{Every, concat}
+use Rattle.job_pool.specs.Queue.{weight_below}
+use Rattle.job_pool.specs.declared.jobs.JobFault.{JobFault}
+use Rattle.job_pool.specs.declared.worker.NumberedEnd.{NumberedEnd}
+use Rattle.stats_book.specs.Counting.{both, sum_of}
+use Rattle.stats_book.specs.declared.totals.Totals.{Totals}
+use Rattle.gate_node.specs.Gates.{Gates}
+use Rattle.gate_node.specs.GateStep.{NodeOverGates}
+use Rattle.gate_node.specs.Merging.{HaveSeenAllOf}
+use Rattle.gate_node.specs.Passes.{Sights}
+use Rattle.gate_node.specs.declared.fault.PoolFault.{PoolFault}
+use Rattle.gate_node.specs.declared.fault.PoolFault.TheVariants.{NoMemory, NoThread, JobsFailed, BookFull}
+use Rattle.session_pool.specs.declared.end_sink.SessionEnd.{SessionEnd}
+use Rattle.session_pool.specs.declared.host.LeftSession.{LeftSession}
+use Rattle.session_pool.specs.declared.left.EndedSession.{EndedSession}
+use Rattle.session_pool.specs.declared.served.Served.{Served}
+use Rattle.session_pool.specs.Leaving.{EndsOver, IsEndOf}
+use Rattle.session_pool.specs.Resuming.{RunStep}
+use Rattle.session_pool.specs.Serving.{CountsInStay}
+use Rattle.session_pool.specs.Suspending.{Origin, SuspendedView, RestsAgain}
+
+-- the end of a session that left these passes and began there
+abbrev pub with_passes : {R W : Type 0} → SessionEnd R W → Sights → Origin → EndedSession R W
+with_passes end passes origin = record { result = end.result; reader = end.reader; writer = end.writer; passes = passes; origin = origin }
+
+-- a session that began there came to this end, over gates that became these
+abbrev pub IsToldEnd : {R W : Type 0} → (R → Option (List ℕ)) → (W → Option (List ℕ)) → Gates → Origin → SessionEnd R W → Type 0
+IsToldEnd remaining contents shared origin end = (passes : Sights) × (after : NodeOverGates) × EndsOver remaining contents shared RunStep origin (with_passes end passes origin) after
+
+-- a session of which a sink was told the end: its number, the session as it was given, its end, the passes that it left, and what it counted
+pub record ToldSession (R W : Type 0) : Type 0 where
+  pub number : ℕ
+  pub session : SuspendedView R W
+  pub end : SessionEnd R W
+  pub passes : Sights
+  pub counted : Totals
+
+-- one that rests: its number, the session as it was given and as it is now, and what it counted
+pub record RestedSession (R W : Type 0) : Type 0 where
+  pub number : ℕ
+  pub session : SuspendedView R W
+  pub now : SuspendedView R W
+  pub counted : Totals
+
+module _ {R W : Type 0} where
+  -- what the sink was told of it
+  abbrev pub told_of : ToldSession R W → NumberedEnd (SessionEnd R W)
+  told_of one = record { number = one.number; end = one.end }
+
+  abbrev pub count_told : ToldSession R W → Totals
+  count_told one = one.counted
+
+  abbrev pub now_of : RestedSession R W → SuspendedView R W
+  now_of one = one.now
+
+  abbrev pub count_rested : RestedSession R W → Totals
+  count_rested one = one.counted
+
+  -- the weights of the numbers of those that rest, together
+  abbrev pub weight_rested : (ℕ → ℕ) → List (RestedSession R W) → ℕ
+  weight_rested w [] = 0
+  weight_rested w (one ∷ rest) = w one.number + weight_rested w rest
+
+  module _ (remaining : R → Option (List ℕ)) (contents : W → Option (List ℕ)) (shared : Gates) (given : List (SuspendedView R W)) where
+    -- it is the one of its number, and came to this end; the passes that it left have seen no more than these
+    pub record IsToldSession (seen : Sights) (one : ToldSession R W) : Type 0 where
+      pub given_as : slice_get given one.number ≡ Some one.session
+      pub ends : IsEndOf remaining contents shared RunStep one.session one.counted false (with_passes one.end one.passes one.session.origin)
+      pub covered : HaveSeenAllOf seen one.passes
+
+    -- it is the one of its number, went on, and rests again, which may be
+    pub record IsRestedSession (may_rest : Type 0) (one : RestedSession R W) : Type 0 where
+      pub given_as : slice_get given one.number ≡ Some one.session
+      pub rests : RestsAgain shared one.session one.counted false one.now
+      pub allowed : may_rest
+
+  module _ {K : Type 0} (may_rest : Type 0) (remaining : R → Option (List ℕ)) (contents : W → Option (List ℕ)) (told : K → List (NumberedEnd (SessionEnd R W))) (shared : Gates) where
+    -- What the sinks were told are the ends of these sessions, and these rest. Each that was given is one of them or was refused, once, since whatever
+    -- their numbers weigh, the sums are the same. What was seen of the gates by those that are over these passes have seen too, and what they had seen
+    -- before. The totals are what they counted.
+    pub record TellsAll (given : List (SuspendedView R W)) (first : Sights) (served : Served R W K) (seen : Sights) : Type 0 where
+      pub ended : List (ToldSession R W)
+      pub rested : List (RestedSession R W)
+      pub refusals : List ℕ
+      pub tells : map told_of ended ≡ told_by told served.sinks.items
+      pub each : Every (IsToldSession remaining contents shared given seen) ended
+      pub rests : map now_of rested ≡ concat (map (λ one. one.items) served.resting.items)
+      pub each_rests : Every (IsRestedSession remaining contents shared given may_rest) rested
+      pub once : (w : ℕ → ℕ) → (weight_told w (told_by told served.sinks.items) + weight_rested w rested) + weight_refused w refusals ≡ weight_below w (length given)
+      pub accepted : served.accepted ≡ length given
+      pub refused : served.refused ≡ length refusals
+      pub all : (length ended + length rested) + served.refused ≡ served.accepted
+      pub seen_on : HaveSeenAllOf seen first
+      pub totals : served.totals ≡ both (sum_of (map count_told ended)) (sum_of (map count_rested rested))
+
+    -- so were all sessions of a source
+    abbrev pub TellsSource : {J : Type 0} → (J → Result (Option (SuspendedView R W)) JobFault → J → Type 0) → J → Sights → Served R W K → J → Sights → Type 0
+    TellsSource Gives first before served last seen = (given : List (SuspendedView R W)) × GaveAll Gives first given last × TellsAll given before served seen
+
+module _ {J R W : Type 0} (Gives : J → Result (Option (SuspendedView R W)) JobFault → J → Type 0) (may_rest : Type 0) (remaining : R → Option (List ℕ)) (contents : W → Option (List ℕ)) (shared : Gates) where
+  -- all sessions were given, and in one of them the book was full
+  pub record GavePastFullBook (first last : J) : Type 0 where
+    pub given : List (SuspendedView R W)
+    pub all : GaveAll Gives first given last
+    pub number : ℕ
+    pub session : SuspendedView R W
+    pub is : slice_get given number ≡ Some session
+    pub before : Totals
+    pub after : Totals
+    pub one : LeftSession R W
+    pub counts : CountsInStay may_rest remaining contents shared before session after one
+    pub full : one.book_full ≡ true
+
+  -- what is left of the source of sessions
+  abbrev pub LeavesTold : PoolFault → J → J → Type 0
+  LeavesTold NoMemory first last = GaveSome Gives first last
+  LeavesTold NoThread first last = last ≡ first
+  LeavesTold JobsFailed first last = GaveThenFailed Gives first last
+  LeavesTold BookFull first last = GavePastFullBook first last

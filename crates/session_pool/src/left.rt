@@ -1,0 +1,56 @@
+//! How a session is left.
+ghost use Rattle.std.specs.Prelude.{◌≡◌};
+ghost use Rattle.session_pool.specs.Leaving.{IsLeftAs};
+
+use crate::rest::Began;
+use crate::suspended::Suspended;
+use gate_node::Passes;
+use node_session::{Ended, Scratch, SessionFault};
+use std::io::{Read, Write};
+
+/// A session that is over: what came of it, its streams and its passes as it left them, and where it began.
+#[derive(Drop)]
+pub struct EndedSession<R, W> {
+    pub result: Result<Ended, SessionFault>,
+    pub reader: R,
+    pub writer: W,
+    pub passes: Passes,
+    pub origin: Began,
+}
+
+/// How a session is left.
+#[derive(Drop)]
+pub enum Left<R: Read, W: Write> {
+    /// It is over.
+    Ended(EndedSession<R, W>),
+    /// It rests.
+    Rests(Suspended<R, W>),
+}
+
+impl<R: Read, W: Write> Suspended<R, W> {
+    /// Ends it, where it is over; else it rests. The room that was lent to one that is over goes back.
+    pub(crate) fn settle(self, scratch: &mut Scratch) -> Left<R, W>
+        ensures { IsLeftAs R.remaining W.contents self result }
+    {
+        let Some(result) = self.course.outcome() else {
+            return Left::Rests(self);
+        };
+        let Suspended {
+            course,
+            reader,
+            writer,
+            passes,
+            rest: _,
+            origin,
+            over: _,
+        } = self;
+        course.end(scratch);
+        Left::Ended(EndedSession {
+            result,
+            reader,
+            writer,
+            passes,
+            origin,
+        })
+    }
+}

@@ -1,0 +1,207 @@
+//! A run of the pool.
+ghost use Rattle.std.specs.Prelude.{◌≡◌, ◌≤◌, length, IfOk, IfErr};
+ghost use Rattle.job_pool.specs.Giving.{GivesOnly};
+ghost use Rattle.job_pool.specs.Lists.{Every};
+ghost use Rattle.stats_book.specs.Holdings.{AllAre};
+ghost use Rattle.gate_node.specs.Merging.{HaveSeenAllOf};
+ghost use Rattle.gate_node.specs.Passes.{ArePassesOf};
+ghost use Rattle.session_pool.specs.Settling.{pool_fault};
+ghost use Rattle.session_pool.specs.Suspending.{CanGoOn};
+ghost use Rattle.session_pool.specs.Tellers.{IsNewSeat};
+ghost use Rattle.session_pool.specs.Telling.{LeavesTold, TellsSource};
+
+use crate::end_sink::EndSink;
+use crate::host::{Host, OfGates};
+use crate::kept::new_kept;
+use crate::pause::Pause;
+use crate::seat::Seat;
+use crate::served::Served;
+use crate::settle::{new_places, settle};
+use crate::station::stations_of;
+use crate::stream_readiness::StreamReadiness;
+use crate::suspended::Suspended;
+use gate_node::{Passes, PoolFault, Shared, Turnstile};
+use job_pool::{Bell, Jobs, RunFault, run_at};
+use stats_book::{Blanks, open_stocks};
+use std::alloc::Global;
+use std::io::{Read, Write};
+use std::marker::{Brand, PhantomData};
+use std::sync::Wait;
+use std::sync::ledger::Ledger;
+use std::thread::Threads;
+
+/// How many shares the book of a run has: more than there are sessions.
+const SHARES: u64 = 18_446_744_073_709_551_615;
+
+/// The fault of the run below.
+fn fault_of(fault: RunFault) -> PoolFault
+    ensures { result ≡ pool_fault fault }
+{
+    match fault {
+        RunFault::NoMemory => PoolFault::NoMemory,
+        RunFault::NoThread => PoolFault::NoThread,
+        RunFault::JobsFailed => PoolFault::JobsFailed,
+    }
+}
+
+/// A run by a book of these ledgers, over the gates that `H` names.
+fn serve_by<X, J, R, W, T, Q, K, Y, B, H, G, P, D, E, L>(
+    rt: &X,
+    alloc: Global,
+    shared: &Shared,
+    sessions: &mut J,
+    seats: Vec<Seat<K, Y, B>>,
+    turnstile: &T,
+    pause: &Q,
+    seen: &mut Passes,
+    blanks: Blanks,
+) -> Result<Served<R, W, K>, PoolFault>
+where
+    X: Threads + Wait + Sync,
+    J: Jobs<Job = Suspended<R, W>>,
+    R: Read + Drop + Send + Sync,
+    W: Write + Drop + Send + Sync,
+    T: Turnstile + Sync,
+    Q: Pause + Sync,
+    K: EndSink<R, W> + Drop + Send,
+    Y: StreamReadiness<R, W> + Drop + Send,
+    B: Bell + Drop,
+    H: OfGates + Sync + Send,
+    G: Ledger + Send + Sync,
+    P: Ledger + Send + Sync,
+    D: Ledger + Send + Sync,
+    E: Ledger + Send + Sync,
+    L: Ledger + Send + Sync,
+    requires of_run { shared.now ≡ H.gates }
+    requires workers { (1 ≤ length seats.items) × (length seats.items ≤ 64) }
+    requires new { Every (IsNewSeat K.told K.has_room) seats.items }
+    requires sessions { GivesOnly J.gives (CanGoOn shared.now) sessions.old }
+    requires seen { ArePassesOf shared.now seen.old }
+    requires gets { (blanks.gets.name ≡ G.name) × (blanks.gets.parts ≡ G.parts) }
+    requires puts { (blanks.puts.name ≡ P.name) × (blanks.puts.parts ≡ P.parts) }
+    requires deletes { (blanks.deletes.name ≡ D.name) × (blanks.deletes.parts ≡ D.parts) }
+    requires refusals { (blanks.refusals.name ≡ E.name) × (blanks.refusals.parts ≡ E.parts) }
+    requires reaps { (blanks.reaps.name ≡ L.name) × (blanks.reaps.parts ≡ L.parts) }
+    requires parts { AllAre SHARES G.parts P.parts D.parts E.parts L.parts }
+    ensures served { IfOk result (λ served.
+        TellsSource Q.can_be_raised R.remaining W.contents K.told shared.now J.gives
+        sessions.old seen.old served sessions.new seen.new) }
+    ensures sinks { IfOk result (λ served. length served.sinks.items ≡ length seats.items) }
+    ensures fault { IfErr result (λ fault. LeavesTold J.gives Q.can_be_raised
+        R.remaining W.contents shared.now fault sessions.old sessions.new) }
+    ensures more { HaveSeenAllOf seen.new seen.old }
+    ensures passes { ArePassesOf shared.now seen.new }
+{
+    let Ok(workers) = u16::try_from(seats.len()) else {
+        unreachable!()
+    };
+    let Ok((book, rest, stocks)) = open_stocks::<G, P, D, E, L>(alloc, workers, SHARES, blanks)
+    else {
+        return Err(PoolFault::NoMemory);
+    };
+    let Ok(kept) = new_kept(alloc, shared.handoff().ring(), seats.len()) else {
+        return Err(PoolFault::NoMemory);
+    };
+    let Ok(places) = new_places(alloc, seats.len()) else {
+        return Err(PoolFault::NoMemory);
+    };
+    let Ok(stations) = stations_of(alloc, shared, stocks, seats, &kept) else {
+        return Err(PoolFault::NoMemory);
+    };
+    let host = Host::<H, X, T, Q, R, W, G, P, D, E, L> {
+        rt,
+        shared,
+        book: &book,
+        turnstile,
+        pause,
+        kept: kept.workers.as_slice(),
+        of: PhantomData,
+        readers: PhantomData,
+        writers: PhantomData,
+    };
+    match run_at(rt, alloc, &host, sessions, stations) {
+        Ok(told) => settle(book, rest, places, told, seen),
+        Err(fault) => Err(fault_of(fault)),
+    }
+}
+
+/// Serves all sessions of a source over the gates of a run, each to its end or until it is to rest, by as many workers as there are seats, and keeps no
+/// end: each worker's sink is told the ends of its sessions as they come.
+///
+/// There are 1 to 64 seats, whose sinks were told nothing yet. Each session that the source may give is to begin over these gates
+/// ([`Suspended::new`]), or rested over these or over gates that became these by diversions. The calling thread takes the sessions from the source and hands
+/// each to the worker with the least load, by its bell; how many sessions a worker has open, and which of them has its turn, its readiness says. The
+/// calls of all sessions pass the turnstile. What a sink is told is what `serve` of `node_session` promises of that session from its first read on, by a
+/// node over the gates as they were at each step, whether or not this call ever returns (`specs/Telling`: `IsToldEnd`).
+///
+/// Once the pause is raised, a session whose turn comes isn't moved, and rests. So where the source ends, and each session has a turn, the run returns
+/// soon, and the gates are the caller's alone: it may divert partitions, and give the sessions that rest, with others, to a later run. A session that
+/// rests is between two of its steps: nothing that it has read is lost, nor anything that it has to send.
+///
+/// On success each session that the source gave was refused, or a sink was told its end, or it rests, once, and these are counted; the totals are what they
+/// counted in this run (`TellsSource`). The passes in `seen` have then seen what those of each session that is over had seen, and what they had seen
+/// before, whatever is returned: so a history of which they have seen a beginning has a place for each reply of these sessions
+/// ([`told_sessions_are_at_positions`](crate::told_sessions_are_at_positions)). Passes that are handed from run to run bring so one history of each
+/// vnode through all of them (`gate_node`: `tallies_of`).
+///
+/// A worker keeps passes of the gates, which it lays together with those of each session that is over: a comparison of two numbers for each partition
+/// and end. It keeps nothing else of a session that is over, and one place for each that is open. Beside that each has half a MiB kept back for what
+/// doesn't make the vnodes grow ([`gate_node::Reserve`]), which its own thread fills once its readiness says that it may take memory; and, where
+/// there is more than one partition, 416 KiB for those of keys that it met ([`gate_node::PartitionCache`]), which are made before a thread is
+/// started. Where memory is refused for these it remembers none.
+///
+/// Where it is refused, the workers that were started have been joined, what the sinks were told was so, and the sinks and the sessions that were
+/// taken from the source are let go:
+///
+/// - `NoMemory`: memory was refused to the run. The source gave some sessions, or all of them.
+/// - `NoThread`: the system refused a thread. No session was taken from the source.
+/// - `JobsFailed`: the source gave some sessions and then a fault. The sessions that it gave were served or refused.
+/// - `BookFull`: all sessions were served or refused, and in one of them a total would have passed 18,446,744,073,709,551,615.
+///
+/// It waits for the workers, and they for sessions and for one another. It returns if each call of the source, of the turnstile and of the pause
+/// does, and each session is over, or rests, after finitely many turns.
+pub fn serve<X, J, R, W, T, Q, K, Y, B>(
+    rt: &X,
+    alloc: Global,
+    shared: &Shared,
+    sessions: &mut J,
+    seats: Vec<Seat<K, Y, B>>,
+    turnstile: &T,
+    pause: &Q,
+    seen: &mut Passes,
+) -> Result<Served<R, W, K>, PoolFault>
+where
+    X: Threads + Wait + Sync,
+    J: Jobs<Job = Suspended<R, W>>,
+    R: Read + Drop + Send + Sync,
+    W: Write + Drop + Send + Sync,
+    T: Turnstile + Sync,
+    Q: Pause + Sync,
+    K: EndSink<R, W> + Drop + Send,
+    Y: StreamReadiness<R, W> + Drop + Send,
+    B: Bell + Drop,
+    requires workers { (1 ≤ length seats.items) × (length seats.items ≤ 64) }
+    requires new { Every (IsNewSeat K.told K.has_room) seats.items }
+    requires sessions { GivesOnly J.gives (CanGoOn shared.now) sessions.old }
+    requires seen { ArePassesOf shared.now seen.old }
+    ensures served { IfOk result (λ served.
+        TellsSource Q.can_be_raised R.remaining W.contents K.told shared.now J.gives
+        sessions.old seen.old served sessions.new seen.new) }
+    ensures sinks { IfOk result (λ served. length served.sinks.items ≡ length seats.items) }
+    ensures fault { IfErr result (λ fault. LeavesTold J.gives Q.can_be_raised
+        R.remaining W.contents shared.now fault sessions.old sessions.new) }
+    ensures more { HaveSeenAllOf seen.new seen.old }
+    ensures passes { ArePassesOf shared.now seen.new }
+{
+    serve_by::<X, J, R, W, T, Q, K, Y, B, Brand, Brand, Brand, Brand, Brand, Brand>(
+        rt,
+        alloc,
+        shared,
+        sessions,
+        seats,
+        turnstile,
+        pause,
+        seen,
+        Blanks::of(SHARES),
+    )
+}

@@ -1,0 +1,192 @@
+//! A session that goes on.
+ghost use Rattle.std.specs.Prelude.{◌≡◌, ◌<◌, true, false};
+ghost use Rattle.gate_node.specs.Gates.{Gates};
+ghost use Rattle.node_session.specs.Courses.{CanWait, IsGoing, IsOver, weight};
+ghost use Rattle.session_pool.specs.Leaving.{IsEnd, LeavesSession};
+ghost use Rattle.job_pool.specs.declared.service.Moved.TheVariants.{Going, Waits, Over};
+ghost use Rattle.session_pool.specs.Resuming.{RunStep};
+ghost use Rattle.session_pool.specs.Suspending.{SuspendedView, StaysOver};
+
+use crate::left::Left;
+use crate::rest::Began;
+use crate::run_node::RunNode;
+use crate::suspended::Suspended;
+use gate_node::Turnstile;
+use job_pool::Moved;
+use node_session::{Course, Scratch};
+use stats_book::Share;
+use std::alloc::Global;
+use std::io::{Read, Write};
+use std::marker::Model;
+use std::sync::Wait;
+use std::sync::ledger::Ledger;
+
+/// A session that goes on over the gates of a run, and may be left at any time.
+///
+/// Contracts see its node, what it does next and has counted, its streams, and where it began; and that it has come so far since then.
+#[derive(Drop)]
+pub struct Stay<
+    'a,
+    X: Wait,
+    T: Turnstile,
+    R: Read,
+    W: Write,
+    G: Ledger,
+    P: Ledger,
+    D: Ledger,
+    E: Ledger,
+    L: Ledger,
+> {
+    pub(crate) node: RunNode<'a, X, T, G, P, D, E, L>,
+    pub(crate) course: Course,
+    pub(crate) reader: R,
+    pub(crate) writer: W,
+    pub(crate) origin: Began,
+}
+
+impl<
+    'a,
+    X: Wait,
+    T: Turnstile,
+    R: Read,
+    W: Write,
+    G: Ledger,
+    P: Ledger,
+    D: Ledger,
+    E: Ledger,
+    L: Ledger,
+> Model for Stay<'a, X, T, R, W, G, P, D, E, L> {
+    ghost use Rattle.session_pool.specs.Suspending.{StayView, IsOpen};
+
+    ghost Value = { StayView R W };
+
+    ghost view = { λ s. record {
+      node = s.node;
+      stage = s.course.stage;
+      talk = s.course.talk;
+      reader = s.reader;
+      writer = s.writer;
+      origin = s.origin;
+    } };
+
+    ghost invariant = { λ s. IsOpen R.remaining W.contents (record {
+      node = s.node;
+      stage = s.course.stage;
+      talk = s.course.talk;
+      reader = s.reader;
+      writer = s.writer;
+      origin = s.origin;
+    }) };
+}
+
+impl<'a, X, T, R, W, G, P, D, E, L> Stay<'a, X, T, R, W, G, P, D, E, L>
+where
+    X: Wait,
+    T: Turnstile,
+    R: Read,
+    W: Write,
+    G: Ledger,
+    P: Ledger,
+    D: Ledger,
+    E: Ledger,
+    L: Ledger,
+{
+    /// What its requests are read from.
+    pub fn reader(&self) -> &R
+        ensures { result.now ≡ self.now.reader }
+    {
+        &self.reader
+    }
+
+    /// What its replies are written to.
+    pub fn writer(&self) -> &W
+        ensures { result.now ≡ self.now.writer }
+    {
+        &self.writer
+    }
+
+    /// Takes one step of one that isn't over. True where a stream would have to wait; then nothing was done.
+    #[inline(always)]
+    fn advance(&mut self, alloc: Global, scratch: &mut Scratch) -> bool
+        requires { IsGoing self.old.stage }
+        ensures stays { (shared : Gates) (session : SuspendedView R W)
+            → StaysOver shared session self.old → StaysOver shared session self.new }
+        ensures less { result ≡ false → weight self.new.stage self.new.talk
+            < weight self.old.stage self.old.talk }
+        ensures waits { result ≡ true → CanWait self.new.stage self.new.talk.session }
+        ensures still { result ≡ true → (self.new.stage ≡ self.old.stage)
+            × (self.new.talk ≡ self.old.talk) }
+    {
+        self.course.step(
+            alloc,
+            &mut self.reader,
+            &mut self.writer,
+            &mut self.node,
+            scratch,
+        )
+    }
+
+    /// Ends one whose stream would have to wait: that counts as a failure of the stream.
+    fn give_up(&mut self)
+        requires { CanWait self.old.stage self.old.talk.session }
+        ensures stays { (shared : Gates) (session : SuspendedView R W)
+            → StaysOver shared session self.old → StaysOver shared session self.new }
+        ensures over { IsOver self.new.stage }
+    {
+        self.course.stop::<RunNode<'a, X, T, G, P, D, E, L>>();
+    }
+
+    /// Takes one step of it: it answers one message, or calls one stream once. Where a stream would have to wait, and may not, that counts as a
+    /// failure of the stream, and the session is over.
+    pub fn step(&mut self, alloc: Global, scratch: &mut Scratch, may_wait: bool) -> Moved
+        ensures stays { (shared : Gates) (session : SuspendedView R W)
+            → StaysOver shared session self.old → StaysOver shared session self.new }
+        ensures less { result ≡ Going → weight self.new.stage self.new.talk
+            < weight self.old.stage self.old.talk }
+        ensures waits { result ≡ Waits → (self.new.stage ≡ self.old.stage)
+            × (self.new.talk ≡ self.old.talk) }
+        ensures over { result ≡ Over → IsOver self.new.stage }
+    {
+        if self.course.outcome().is_some() {
+            return Moved::Over;
+        }
+        if !self.advance(alloc, scratch) {
+            return Moved::Going;
+        }
+        if may_wait {
+            return Moved::Waits;
+        }
+        self.give_up();
+        Moved::Over
+    }
+
+    /// Leaves it as it is: it is over, or it rests. What it has counted since it went on is in the share; and whether the book had no room for some
+    /// of that. The room that was lent to one that is over goes back.
+    pub fn leave(self, scratch: &mut Scratch) -> (Left<R, W>, Share<G, P, D, E, L>, bool)
+        ensures over { IsOver self.entry.stage → IsEnd result.0 }
+        ensures left { (shared : Gates) (session : SuspendedView R W)
+            → StaysOver shared session self.entry
+            → LeavesSession R.remaining W.contents shared RunStep session
+            result.1 result.2 result.0 }
+    {
+        let Stay {
+            node,
+            course,
+            reader,
+            writer,
+            origin,
+        } = self;
+        let over = node.over();
+        let (share, passes, is_full, rest) = node.parts();
+        let session = Suspended {
+            course,
+            reader,
+            writer,
+            passes,
+            rest,
+            origin,
+            over,
+        };
+        (session.settle(scratch), share, is_full)
+    }
+}

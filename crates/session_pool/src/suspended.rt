@@ -1,0 +1,218 @@
+//! A session that rests between two of its steps.
+ghost use Rattle.std.specs.Prelude.{◌≡◌, false};
+ghost use Rattle.stats_book.specs.Counting.{zeros};
+ghost use Rattle.gate_node.specs.Passes.{ArePassesOf};
+ghost use Rattle.session_pool.specs.Suspending.{CanGoOn, StaysOver, begun};
+
+use crate::kept::{KeptByWorker, kept_by};
+use crate::rest::{Began, Rest, SeenGates, SeenOrigin, Standing, gates_seen};
+use crate::run_node::RunNode;
+use crate::stay::Stay;
+use gate_node::{GateNode, Passes, Shared, Turnstile};
+use ghost_state::{GhostList, Listing};
+use node_session::Course;
+use stats_book::{Book, Share};
+use std::alloc::Global;
+use std::io::{Read, Write};
+use std::marker::Model;
+use std::sync::Wait;
+use std::sync::ledger::Ledger;
+
+/// A session that rests between two of its steps, with its streams and its passes: one that has begun, or is to. Nobody serves it, and
+/// partitions may be diverted until it goes on.
+///
+/// Contracts see where it began, and that it has come so far from its first read on, by a node over the gates as they were at each step.
+#[derive(Drop)]
+pub struct Suspended<R: Read, W: Write> {
+    pub(crate) course: Course,
+    pub(crate) reader: R,
+    pub(crate) writer: W,
+    pub(crate) passes: Passes,
+    pub(crate) rest: Rest,
+    pub(crate) origin: Began,
+    pub(crate) over: GhostList<SeenGates>,
+}
+
+impl<R: Read, W: Write> Model for Suspended<R, W> {
+    ghost use Rattle.std.specs.Prelude.{◌≡◌};
+    ghost use Rattle.session_pool.specs.Resuming.{gates_in};
+    ghost use Rattle.session_pool.specs.Suspending.{SuspendedView, IsUnderWay};
+
+    ghost Value = { SuspendedView R W };
+
+    ghost view = { λ s. record {
+      origin = s.origin;
+      rest = s.rest;
+      over = gates_in s.over;
+      stage = s.course.stage;
+      talk = s.course.talk;
+      reader = s.reader;
+      writer = s.writer;
+    } };
+
+    ghost invariant = { λ s. (s.passes ≡ s.rest.passes)
+        × IsUnderWay R.remaining W.contents (record {
+          origin = s.origin;
+          rest = s.rest;
+          over = gates_in s.over;
+          stage = s.course.stage;
+          talk = s.course.talk;
+          reader = s.reader;
+          writer = s.writer;
+        }) };
+}
+
+/// Where a session begins that has these streams, by these passes of these gates.
+struct WithStreams;
+
+impl<'a, R: Read, W: Write> Listing<(&'a Shared, &'a Passes, &'a R, &'a W), SeenOrigin>
+    for WithStreams {
+    ghost use Rattle.std.specs.Prelude.{[], ◌∷◌};
+
+    ghost list = { λ about. record {
+      gates = about.0.now;
+      passes = about.1.now;
+      unread = R.remaining about.2.now;
+      held = W.contents about.3.now;
+    } ∷ [] };
+}
+
+/// Where a session begins that has these streams, by these passes of these gates.
+fn began<R: Read, W: Write>(shared: &Shared, passes: &Passes, reader: &R, writer: &W) -> Began
+    ensures { result ≡ record {
+      gates = shared.now;
+      passes = passes.now;
+      unread = R.remaining reader.now;
+      held = W.contents writer.now;
+    } }
+{
+    let about = (shared, passes, reader, writer);
+    Began {
+        at: GhostList::listed::<(&Shared, &Passes, &R, &W), WithStreams>(&about),
+    }
+}
+
+/// Where a node stands that has these passes of these gates, and has done nothing.
+struct FirstPlace;
+
+impl<'a> Listing<(&'a Shared, &'a Passes), Standing> for FirstPlace {
+    ghost use Rattle.std.specs.Prelude.{[], ◌∷◌, false};
+    ghost use Rattle.stats_book.specs.Counting.{zeros};
+
+    ghost list = { λ pair. record {
+      shared = pair.0.now;
+      passes = pair.1.now;
+      count = record { counted = zeros; book_full = false };
+    } ∷ [] };
+}
+
+/// Where a session begins that has these passes of these gates.
+fn first_rest(shared: &Shared, passes: &Passes) -> Rest
+    ensures { result ≡ record {
+      shared = shared.now;
+      passes = passes.now;
+      count = record { counted = zeros; book_full = false };
+    } }
+{
+    let pair = (shared, passes);
+    Rest {
+        at: GhostList::listed::<(&Shared, &Passes), FirstPlace>(&pair),
+    }
+}
+
+impl<R: Read, W: Write> Suspended<R, W> {
+    /// A session that is to begin over these gates, by these passes of them. It takes no memory.
+    pub fn new(
+        alloc: Global,
+        shared: &Shared,
+        passes: Passes,
+        reader: R,
+        writer: W,
+    ) -> Suspended<R, W>
+        requires { ArePassesOf shared.now passes }
+        ensures { result ≡ begun (record {
+          gates = shared.now;
+          passes = passes;
+          unread = R.remaining reader;
+          held = W.contents writer;
+        }) reader writer }
+    {
+        Suspended {
+            course: Course::new(alloc, shared.reads()),
+            rest: first_rest(shared, &passes),
+            origin: began(shared, &passes, &reader, &writer),
+            reader,
+            writer,
+            passes,
+            over: gates_seen(shared),
+        }
+    }
+
+    /// What its requests are read from.
+    pub fn reader(&self) -> &R
+        ensures { result.now ≡ self.now.reader }
+    {
+        &self.reader
+    }
+
+    /// What its replies are written to.
+    pub fn writer(&self) -> &W
+        ensures { result.now ≡ self.now.writer }
+    {
+        &self.writer
+    }
+
+    /// Lets it go, but for its streams.
+    pub(crate) fn into_streams(self) -> (R, W)
+        ensures reader { result.0 ≡ self.reader }
+        ensures writer { result.1 ≡ self.writer }
+    {
+        let Suspended {
+            course: _course,
+            reader,
+            writer,
+            passes: _passes,
+            rest: _rest,
+            origin: _origin,
+            over: _over,
+        } = self;
+        (reader, writer)
+    }
+
+    /// It goes on over these gates, those that it rested over or what they became, by a share that has counted nothing, with what its worker keeps, where
+    /// that does. Each of its calls passes the turnstile.
+    pub(crate) fn go_on<'a, X: Wait, T: Turnstile, G: Ledger, P: Ledger, D: Ledger, E: Ledger, L: Ledger>(
+        self,
+        rt: &'a X,
+        shared: &'a Shared,
+        book: &'a Book<G, P, D, E, L>,
+        share: Share<G, P, D, E, L>,
+        turnstile: &'a T,
+        kept: Option<&'a KeptByWorker>,
+    ) -> Stay<'a, X, T, R, W, G, P, D, E, L>
+        requires unused { share ≡ zeros }
+        requires later { CanGoOn shared.now self }
+        ensures { StaysOver shared.now self result }
+    {
+        let Suspended {
+            course,
+            reader,
+            writer,
+            passes,
+            rest,
+            origin,
+            over: _,
+        } = self;
+        let node = kept_by(
+            GateNode::new(rt, shared, book, share, passes, turnstile),
+            kept,
+        );
+        Stay {
+            node: RunNode::resumed(shared, node, rest),
+            course,
+            reader,
+            writer,
+            origin,
+        }
+    }
+}

@@ -1,0 +1,89 @@
+//! What a worker waits with that keeps a reserve.
+
+use crate::host::{Host, OfGates};
+use crate::kept::Kept;
+use crate::pause::Pause;
+use crate::stay::Stay;
+use crate::stream_readiness::StreamReadiness;
+use gate_node::Turnstile;
+use job_pool::{Moved, Readiness, Turn};
+use std::alloc::Global;
+use std::io::{Read, Write};
+use std::sync::Wait;
+use std::sync::ledger::Ledger;
+
+/// What a worker waits with, which is shown the streams of a session; and the worker's reserve, which its own thread fills once all threads were
+/// started, one worker behind the other: an allocator may take much more for a thread for a moment than what it keeps.
+#[derive(Drop)]
+pub(crate) struct Watch<'a, Y> {
+    streams: Y,
+    kept: &'a Kept,
+    /// Which of them is the worker.
+    place: usize,
+    is_filled: bool,
+    alloc: Global,
+}
+
+impl<'a, Y> Watch<'a, Y> {
+    /// With a reserve that isn't filled yet.
+    pub(crate) fn new(alloc: Global, streams: Y, kept: &'a Kept, place: usize) -> Watch<'a, Y> {
+        Watch {
+            streams,
+            kept,
+            place,
+            is_filled: false,
+            alloc,
+        }
+    }
+
+    /// Fills the reserve, or as much of it as there is memory for, once that may be.
+    fn fill<V: Wait>(&mut self, rt: &V, may_take_memory: bool) {
+        if may_take_memory && !self.is_filled {
+            let held = self.kept.filling.lock(rt);
+            if let Some(worker) = self.kept.workers.as_slice().get(self.place) {
+                let _is_whole = worker.reserve.fill(self.alloc);
+            }
+            drop(held);
+            self.is_filled = true;
+        }
+    }
+}
+
+impl<'a, Y, H, X, T, Q, I, O, G, P, D, E, R> Readiness<Host<'a, H, X, T, Q, I, O, G, P, D, E, R>>
+    for Watch<'a, Y>
+where
+    Y: StreamReadiness<I, O>,
+    H: OfGates + Sync,
+    X: Wait + Sync,
+    T: Turnstile + Sync,
+    Q: Pause + Sync,
+    I: Read + Drop + Send + Sync,
+    O: Write + Drop + Send + Sync,
+    G: Ledger,
+    P: Ledger,
+    D: Ledger,
+    E: Ledger,
+    R: Ledger,
+{
+    fn takes(&mut self, is_idle: bool) -> bool {
+        self.streams.takes(is_idle)
+    }
+
+    fn begin(&mut self, slot: usize, opened: &Stay<'a, X, T, I, O, G, P, D, E, R>) {
+        self.streams.begin(slot, opened.reader(), opened.writer());
+    }
+
+    fn next(&mut self) -> Option<Turn> {
+        self.streams.next()
+    }
+
+    fn after(&mut self, slot: usize, moved: Moved) {
+        self.streams.after(slot, moved);
+    }
+
+    fn wait<V: Wait>(&mut self, rt: &V, is_idle: bool) {
+        self.streams.wait(rt, is_idle);
+        let may_take_memory = self.streams.may_take_memory();
+        self.fill(rt, may_take_memory);
+    }
+}

@@ -1,6 +1,0 @@
--- The lemmas of this crate.
-pub mod Keeping
-pub mod Mapping
-pub mod Shifting
-pub mod Resuming
-pub mod Resting

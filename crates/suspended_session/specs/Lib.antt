@@ -1,4 +1,0 @@
--- The definitions of this crate.
-pub mod Resuming
-pub mod Suspending
-pub mod Leaving
