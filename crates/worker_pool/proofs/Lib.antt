@@ -3,13 +3,8 @@ pub mod Keeping
 pub mod Closing
 pub mod Ends
 pub mod Faults
-pub mod Sources
 pub mod Summing
 pub mod Histories
 pub mod InHistories
 pub mod Runs
 pub mod LegalRuns
-pub mod Tellers
-pub mod Stations
-pub mod Gathering
-pub mod Told
