@@ -1,18 +1,18 @@
 -- Texts of commands: which bytes they lack, how a copy's numbers are cut, and what comes of their refusal.
-use Rattle.std.proofs.Common.{◌≡◌, ℕ, ◌==◌, not, List, [], ◌∷◌, ◌++◌, Option, Some, None, ◌<◌, ◌≤◌, true, false, refl, sym, ap, subst, ◌∙◌, arith, codes, inl, inr}
+use Rattle.std.proofs.Common.{◌≡◌, ℕ, ◌==◌, not, List, [], ◌∷◌, ◌++◌, Bool, Option, Some, None, ◌<◌, true, false, refl, sym, ap, subst, ◌∙◌, arith, codes, inl, inr}
 use Rattle.std.specs.Prelude.{◌≢◌, ◌^◌, decimal}
 use Rattle.std.specs.Char.{digit_value}
 use Rattle.std.specs.Str.Parse.{AllDigits}
 use Rattle.std.specs.List.{list_all}
 use Rattle.std.proofs.lemmas.Bool.{and_parts}
-use Rattle.std.proofs.lemmas.Fmt.{decimal_is_IsNumeral, decimal_injective}
+use Rattle.std.proofs.lemmas.Fmt.{decimal_is_IsNumeral}
 use Rattle.std.proofs.lemmas.List.{append_cancel_left, append_cancel_right}
 use Rattle.std.proofs.lemmas.List.Folds.{list_all-append}
 use Rattle.std.proofs.lemmas.Str.Parse.{digit_from_value}
 use Rattle.control_text.specs.declared.command.Command.{Command}
 use Rattle.control_text.specs.declared.command.Command.TheVariants.{Totals, Divert, Copy, Return, Stop}
-use Rattle.control_text.specs.Commands.{command_text, IsPartition, IsBudget, IsInRange, IsLineOf, AsksFor, ReadsCommand}
-use Rattle.control_text.specs.Reading.{Lacks, IsCut, ReadsNumber, IsTextOf, ReadsText, ReadsBehind, NamesAlone}
+use Rattle.control_text.specs.Commands.{command_text, IsPartition, IsBudget, IsInRange, IsLineOf, ReadsCommand}
+use Rattle.control_text.specs.Reading.{Lacks, IsCut, ReadsText, ReadsBehind}
 
 -- the first of a list, and a list without it
 abbrev pub head_or : ℕ → List ℕ → ℕ
@@ -49,9 +49,20 @@ lacks_none byte [] ys lacks =
 lacks_none byte (x ∷ xs) ys lacks =
     lacks_none byte xs ys (and_parts (not (x == byte)) (list_all (λ b. not (b == byte)) (xs ++ byte ∷ ys)) lacks).1
 
--- two texts that lack a byte lack it together
-lacks_both : (byte : ℕ) (xs ys : List ℕ) → Lacks byte xs → Lacks byte ys → Lacks byte (xs ++ ys)
-lacks_both byte xs ys lx ly = list_all-append (λ b. not (b == byte)) xs ys ∙ rw (lx, ly) refl
+-- what holds of each byte of two texts holds of each of both
+pub all_both : (holds : ℕ → Bool) (xs ys : List ℕ) → list_all holds xs ≡ true → list_all holds ys ≡ true
+    → list_all holds (xs ++ ys) ≡ true
+all_both holds xs ys left right = list_all-append holds xs ys ∙ rw (left, right) refl
+
+-- what holds of each digit holds of each byte of a number
+digits_all : (holds : ℕ → Bool) → ((c : ℕ) → digit_value c < 10 → holds c ≡ true) → (ds : List ℕ) → AllDigits 10 ds
+    → list_all holds ds ≡ true
+digits_all holds each [] all = refl
+digits_all holds each (d ∷ ds) all = rw (each d all.0, digits_all holds each ds all.1) refl
+
+pub decimal_all : (holds : ℕ → Bool) → ((c : ℕ) → digit_value c < 10 → holds c ≡ true) → (n : ℕ) → n < 2 ^ 64
+    → list_all holds (decimal n) ≡ true
+decimal_all holds each n small = digits_all holds each (decimal n) (decimal_is_IsNumeral n small).0.1
 
 -- a digit is no byte below `0`
 not_below : (byte c : ℕ) → byte < 48 → digit_value c < 10 → not (c == byte) ≡ true
@@ -59,12 +70,11 @@ not_below byte c below is =
     let range = digit_from_value c is in
     grind (arith)
 
-digits-lack : (byte : ℕ) (ds : List ℕ) → byte < 48 → AllDigits 10 ds → Lacks byte ds
-digits-lack byte [] below all = refl
-digits-lack byte (d ∷ ds) below all = rw (not_below byte d below all.0, digits-lack byte ds below all.1) refl
-
 pub decimal-lacks : (byte n : ℕ) → byte < 48 → n < 2 ^ 64 → Lacks byte (decimal n)
-decimal-lacks byte n below small = digits-lack byte (decimal n) below (decimal_is_IsNumeral n small).0.1
+decimal-lacks byte n below small = decimal_all (λ b. not (b == byte)) (λ c is. not_below byte c below is) n small
+
+lacks_both : (byte : ℕ) (xs ys : List ℕ) → Lacks byte xs → Lacks byte ys → Lacks byte (xs ++ ys)
+lacks_both byte = all_both (λ b. not (b == byte))
 
 -- no text of a command has a carriage return
 pub command-lacks_return : (command : Command) → IsInRange command → Lacks 13 (command_text command)
@@ -112,28 +122,6 @@ unlike x y xs ys other e =
     let same : x ≡ y = ap (head_or 0) e in
     grind (arith)
 
--- the text behind `divert ` is no partition's index
-pub divert_refused : (operands : List ℕ) → ReadsNumber IsPartition operands None → ReadsBehind (codes "divert ") operands None
-divert_refused operands none = λ command is. by command is.in_range is.whole
-  where
-    by : (command : Command) → IsInRange command → codes "divert " ++ operands ≢ command_text command
-    by Totals is e = unlike 100 116 _ _ refl e
-    by (Divert partition) is e = none partition is (append_cancel_left (codes "divert ") operands (decimal partition) e)
-    by (Copy partition budget) is e = unlike 100 99 _ _ refl e
-    by (Return partition) is e = unlike 100 114 _ _ refl e
-    by Stop is e = unlike 100 115 _ _ refl e
-
--- the text behind `return ` is no partition's index
-pub return_refused : (operands : List ℕ) → ReadsNumber IsPartition operands None → ReadsBehind (codes "return ") operands None
-return_refused operands none = λ command is. by command is.in_range is.whole
-  where
-    by : (command : Command) → IsInRange command → codes "return " ++ operands ≢ command_text command
-    by Totals is e = unlike 114 116 _ _ refl e
-    by (Divert partition) is e = unlike 114 100 _ _ refl e
-    by (Copy partition budget) is e = unlike 114 99 _ _ refl e
-    by (Return partition) is e = none partition is (append_cancel_left (codes "return ") operands (decimal partition) e)
-    by Stop is e = unlike 114 115 _ _ refl e
-
 -- the text behind `copy ` is no two numbers
 pub copy_refused : (operands : List ℕ)
     → ((partition budget : ℕ) → IsPartition partition → IsBudget budget → operands ≢ decimal partition ++ 32 ∷ decimal budget)
@@ -154,21 +142,3 @@ pub copy_cut : (operands first second : List ℕ) (partition budget : ℕ) → I
 copy_cut operands first second partition budget cut is e =
     cut_once 32 first second (decimal partition) (decimal budget) cut.first (decimal-lacks 32 partition (omega arith) (omega (arith, is)))
     (sym cut.whole ∙ e)
-
--- where no text of a command with a number, and none of the others, is it
-pub none_of : (text : List ℕ) → ((rest : List ℕ) → text ≢ codes "divert " ++ rest) → ((rest : List ℕ) → text ≢ codes "copy " ++ rest)
-    → ((rest : List ℕ) → text ≢ codes "return " ++ rest) → NamesAlone text None → ReadsText text None
-none_of text divert copy return alone = λ command is. by command is.whole
-  where
-    by : (command : Command) → text ≢ command_text command
-    by Totals e = alone.0 (sym e)
-    by (Divert partition) e = divert (decimal partition) e
-    by (Copy partition budget) e = copy (decimal partition ++ 32 ∷ decimal budget) e
-    by (Return partition) e = return (decimal partition) e
-    by Stop e = alone.1 (sym e)
-
-pub alone_read : (text : List ℕ) (r : Option Command) → ((rest : List ℕ) → text ≢ codes "divert " ++ rest)
-    → ((rest : List ℕ) → text ≢ codes "copy " ++ rest) → ((rest : List ℕ) → text ≢ codes "return " ++ rest) → NamesAlone text r
-    → ReadsText text r
-alone_read text (Some command) divert copy return alone = record { whole = sym alone.0; in_range = alone.1 }
-alone_read text None divert copy return alone = none_of text divert copy return alone

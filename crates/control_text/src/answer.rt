@@ -1,8 +1,8 @@
 //! What is answered to a command.
 
-ghost use Rattle.std.specs.Prelude.{OnOk};
+ghost use Rattle.std.specs.Prelude.{◌≡◌, OnOk};
 ghost use Rattle.std.specs.Io.KnownBytes.{Appends};
-ghost use Rattle.control_text.specs.Answers.{answer_line};
+ghost use Rattle.control_text.specs.Answers.{answer_line, answer_text, rest_word};
 
 use crate::refusal::Refusal;
 use std::io;
@@ -29,6 +29,13 @@ pub enum Answer {
     Refused(Refusal),
 }
 
+/// The word for whether keys are left to be copied.
+fn rest_word(left: bool) -> &'static str
+    ensures { result.now ≡ rest_word left }
+{
+    if left { "left" } else { "whole" }
+}
+
 impl Answer {
     /// Writes the answer's line, its line feed (byte 0a) among it. On an error of the writer a part of it may have been written. It takes no
     /// memory of its own.
@@ -38,12 +45,13 @@ impl Answer {
     {
         match self {
             Answer::Diverted(partition) => writeln!(writer, "diverted {partition}"),
-            Answer::Copied { partition, keys, left } => {
-                if left {
-                    writeln!(writer, "copied {partition} keys {keys} left")
-                } else {
-                    writeln!(writer, "copied {partition} keys {keys} whole")
-                }
+            Answer::Copied {
+                partition,
+                keys,
+                left,
+            } => {
+                let rest = rest_word(left);
+                writeln!(writer, "copied {partition} keys {keys} {rest}")
             }
             Answer::Returned(partition) => writeln!(writer, "returned {partition}"),
             Answer::Refused(refusal) => refusal.write_line(writer),

@@ -2,7 +2,7 @@
 //!
 //! What it means: which lines ask for which command is defined in `specs/Commands` (`AsksFor`), and [`read_command`] reads a line as the
 //! command that it asks for. A line asks for one command ([`a_text_asks_for_one_command`]). The line of an [`Answer`], and of a [`Refusal`],
-//! is defined in `specs/Answers`; each writes its own.
+//! is defined in `specs/Answers`; each writes its own. It is one line of printable ASCII ([`an_answer_is_one_line`]).
 //!
 //! What it costs: nothing here takes memory. What a line asks for is found in one or two passes over it.
 //!
@@ -26,6 +26,6 @@ mod refusal;
 
 pub use answer::Answer;
 pub use command::Command;
-pub use laws::a_text_asks_for_one_command;
+pub use laws::{a_text_asks_for_one_command, an_answer_is_one_line};
 pub use reading::read_command;
 pub use refusal::Refusal;

@@ -1,6 +1,6 @@
 //! Why a command wasn't done.
 
-ghost use Rattle.std.specs.Prelude.{OnOk};
+ghost use Rattle.std.specs.Prelude.{◌++◌, OnOk, codes, decimal};
 ghost use Rattle.std.specs.Io.KnownBytes.{Appends};
 ghost use Rattle.control_text.specs.Answers.{refusal_line};
 
@@ -22,8 +22,16 @@ pub enum Refusal {
     LeftOver(u16),
     /// Memory was refused: `refused: no memory`.
     NoMemory,
-    /// The gate of the partition's vnode can be entered no more: `refused: partition 3's gate has stopped`.
+    /// A gate of the partition takes no more steps: `refused: partition 3's gate has stopped`.
     GateStopped(u16),
+}
+
+/// Writes the line of a refusal that begins with its partition.
+fn write_about<W: Write>(writer: &mut W, partition: u16, what: &str) -> io::Result<()>
+    ensures { OnOk result (Appends (W.contents writer.old) (W.contents writer.new)
+        (codes "refused: partition " ++ decimal partition ++ what.now ++ codes "\n")) }
+{
+    writeln!(writer, "refused: partition {partition}{what}")
 }
 
 impl Refusal {
@@ -35,18 +43,16 @@ impl Refusal {
     {
         match self {
             Refusal::BadCommand => writeln!(writer, "refused: no such command"),
-            Refusal::NoPartition(p) => writeln!(writer, "refused: there is no partition {p}"),
-            Refusal::AlreadyDiverted(p) => {
-                writeln!(writer, "refused: partition {p} is diverted already")
+            Refusal::NoPartition(index) => {
+                writeln!(writer, "refused: there is no partition {index}")
             }
-            Refusal::NotDiverted(p) => writeln!(writer, "refused: partition {p} isn't diverted"),
-            Refusal::LeftOver(p) => {
-                writeln!(writer, "refused: partition {p} has keys left to be copied")
+            Refusal::AlreadyDiverted(index) => write_about(writer, index, " is diverted already"),
+            Refusal::NotDiverted(index) => write_about(writer, index, " isn't diverted"),
+            Refusal::LeftOver(index) => {
+                write_about(writer, index, " has keys left to be copied")
             }
             Refusal::NoMemory => writeln!(writer, "refused: no memory"),
-            Refusal::GateStopped(p) => {
-                writeln!(writer, "refused: partition {p}'s gate has stopped")
-            }
+            Refusal::GateStopped(index) => write_about(writer, index, "'s gate has stopped"),
         }
     }
 }

@@ -1,7 +1,6 @@
-use Rattle.std.proofs.Common.{sym, subst, ◌∙◌, ◌≡◌, true, false, arith}
+use Rattle.std.proofs.Common.{sym, ◌∙◌, ◌≡◌, true, false, arith}
 use Rattle.std.specs.Prelude.{◌<◌, ◌^◌}
 use Rattle.std.proofs.lemmas.Fmt.{decimal_injective}
-use Rattle.control_text.specs.Commands.{IsBudget, IsPartition}
 use Rattle.control_text.proofs.number.read_budget.Goals as goal
 
 pub returns-else-is_budget : goal.returns-else-is_budget
