@@ -1,3 +1,4 @@
+mod OneLine
+mod Numbers
 mod Texts
 mod OneCommand
-mod OneLine

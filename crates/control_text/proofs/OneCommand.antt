@@ -6,7 +6,8 @@ use Rattle.std.proofs.lemmas.List.{append_cancel_left, append_cancel_right}
 use Rattle.control_text.specs.declared.command.Command.{Command}
 use Rattle.control_text.specs.declared.command.Command.TheVariants.{Totals, Divert, Copy, Return, Stop}
 use Rattle.control_text.specs.Commands.{command_text, IsPartition, IsInRange, IsLineOf, AsksFor}
-use Rattle.control_text.proofs.Texts.{head_or, decimal-lacks, copy_cut, not_returned}
+use Rattle.control_text.proofs.Texts.{head_or, partition-small, budget-small, not_returned}
+use Rattle.control_text.proofs.Numbers.{numbers_once}
 
 -- two numbers of one text
 partition_once : (p q : ℕ) → IsPartition p → IsPartition q → decimal p ≡ decimal q → p ≡ q
@@ -44,13 +45,8 @@ same_letter (Copy p b) Totals first small less e = absurd (omega arith)
 same_letter (Copy p b) (Divert q) first small less e = absurd (omega arith)
 same_letter (Copy p b) (Copy q c) first small less e =
     let operands = append_cancel_left (codes "copy ") (decimal p ++ 32 ∷ decimal b) (decimal q ++ 32 ∷ decimal c) e in
-    let top = small.0 in
-    let many = small.1.1 in
-    let more = less.1.1 in
-    let cut = copy_cut (decimal p ++ 32 ∷ decimal b) (decimal p) (decimal b) q c
-    (record { whole = refl; first = decimal-lacks 32 p (omega arith) (omega (arith, top)) }) less.0 operands in
-    let budget : b ≡ c = decimal_injective b c (omega (arith, many)) (omega (arith, more)) cut.1 in
-    rw (partition_once p q small.0 less.0 cut.0, budget) refl
+    let once = numbers_once p b q c (partition-small p small.0) (budget-small b small.1) (partition-small q less.0) (budget-small c less.1) operands in
+    rw (once.0, once.1) refl
 same_letter (Copy p b) (Return q) first small less e = absurd (omega arith)
 same_letter (Copy p b) Stop first small less e = absurd (omega arith)
 same_letter (Return p) Totals first small less e = absurd (omega arith)

@@ -29,21 +29,23 @@ answer_text (Copied partition keys left) =
 answer_text (Returned partition) = codes "returned " ++ decimal partition
 answer_text (Refused refusal) = refusal_text refusal
 
--- the line of a refusal, and of an answer
+-- the line of a refusal
 abbrev pub refusal_line : Refusal → List ℕ
 refusal_line refusal = refusal_text refusal ++ codes "\n"
 
+-- the line of an answer
 abbrev pub answer_line : Answer → List ℕ
 answer_line answer = answer_text answer ++ codes "\n"
 
--- the text is on one line, of printable ASCII: each byte is from a space (20) to a tilde (7e)
+-- printable ASCII is from a space (20) to a tilde (7e)
 abbrev pub is_printable : ℕ → Bool
 is_printable byte = nat_le 32 byte && nat_le byte 126
 
+-- a text of it is on one line
 abbrev pub IsOneLine : List ℕ → Type 0
 IsOneLine text = IsTrue (list_all is_printable text)
 
--- the numbers of a refusal, and of an answer, are in their ranges
+-- the numbers of a refusal are in their ranges
 abbrev pub RefusalIsInRange : Refusal → Type 0
 RefusalIsInRange BadCommand = ⊤
 RefusalIsInRange (NoPartition partition) = partition < 2 ^ 16
@@ -53,6 +55,7 @@ RefusalIsInRange (LeftOver partition) = partition < 2 ^ 16
 RefusalIsInRange NoMemory = ⊤
 RefusalIsInRange (GateStopped partition) = partition < 2 ^ 16
 
+-- the numbers of an answer are in their ranges
 abbrev pub AnswerIsInRange : Answer → Type 0
 AnswerIsInRange (Diverted partition) = partition < 2 ^ 16
 AnswerIsInRange (Copied partition keys left) = (partition < 2 ^ 16) × (keys < 2 ^ 64)

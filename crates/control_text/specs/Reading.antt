@@ -1,23 +1,7 @@
 -- What comes of reading the parts of a line.
-use Rattle.std.specs.Prelude.{◌≡◌, ◌≢◌, ℕ, ◌<◌, ◌^◌, ◌==◌, not, List, ◌∷◌, ◌++◌, IsTrue, Option, Some, None, codes, decimal}
-use Rattle.std.specs.Borrow.{Bor}
-use Rattle.std.specs.List.{list_all}
+use Rattle.std.specs.Prelude.{◌≡◌, ◌≢◌, ℕ, ◌<◌, ◌^◌, List, ◌++◌, Option, Some, None, codes, decimal}
 use Rattle.control_text.specs.declared.command.Command.{Command}
 use Rattle.control_text.specs.Commands.{command_text, IsInRange}
-
--- the byte doesn't occur
-abbrev pub Lacks : ℕ → List ℕ → Type 0
-Lacks byte text = IsTrue (list_all (λ b. not (b == byte)) text)
-
--- a text and what stands before and behind its first such byte
-pub record IsCut (byte : ℕ) (text before behind : List ℕ) : Type 0 where
-  pub whole : text ≡ before ++ byte ∷ behind
-  pub first : Lacks byte before
-
--- what stands before and behind the first such byte, and none where there is none
-abbrev pub CutsAt : ℕ → List ℕ → Option (Bor (List ℕ) × Bor (List ℕ)) → Type 0
-CutsAt byte text (Some cut) = IsCut byte text cut.0.now cut.1.now
-CutsAt byte text None = Lacks byte text
 
 -- the number below 2 to the 32 that a text writes in decimal without leading zeros
 abbrev pub ReadsDecimal : List ℕ → Option ℕ → Type 0

@@ -18,7 +18,6 @@
 
 mod answer;
 mod command;
-mod cut;
 mod laws;
 mod number;
 mod reading;

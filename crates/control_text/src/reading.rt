@@ -5,7 +5,6 @@ ghost use Rattle.control_text.specs.Commands.{ReadsCommand};
 ghost use Rattle.control_text.specs.Reading.{NamesAlone, ReadsBehind, ReadsText};
 
 use crate::command::Command;
-use crate::cut::cut_at;
 use crate::number::{read_budget, read_partition};
 
 /// The command that has this text, of those without a number.
@@ -43,13 +42,16 @@ fn read_return(operands: &[u8]) -> Option<Command>
 fn read_copy(operands: &[u8]) -> Option<Command>
     ensures { ReadsBehind (codes "copy ") operands.now result }
 {
-    let Some((first, second)) = cut_at(operands, b' ') else {
+    let Ok(numbers) = str::from_utf8(operands) else {
         return None;
     };
-    let Some(partition) = read_partition(first) else {
+    let Some((first, second)) = numbers.split_once(' ') else {
         return None;
     };
-    match read_budget(second) {
+    let Some(partition) = read_partition(first.as_bytes()) else {
+        return None;
+    };
+    match read_budget(second.as_bytes()) {
         Some(budget) => Some(Command::Copy { partition, budget }),
         None => None,
     }
