@@ -4,7 +4,7 @@
 //! command that it asks for. A line asks for one command ([`a_text_asks_for_one_command`]). The line of an [`Answer`], and of a [`Refusal`],
 //! is defined in `specs/Answers`; each writes its own. It is one line of printable ASCII ([`an_answer_is_one_line`]).
 //!
-//! What it costs: nothing here takes memory. What a line asks for is found in one or two passes over it.
+//! What it costs: nothing here takes memory. A line is read in a few passes over it.
 //!
 //! ```text
 //! totals              how many commands were served
