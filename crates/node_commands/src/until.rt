@@ -94,7 +94,7 @@ fn tally<'a, T>(
 where
     T: Wait,
     requires { ArePassesOf shared.now seen.now }
-    ensures { IfOk result (IsTallied shared.now served connections closed seen.now) }
+    ensures { IfOk result (IsTallied shared.now served.entry connections closed seen.now) }
 {
     match tallies_of(rt, alloc, shared, slice::from_ref(seen)) {
         Ok(tallies) => Ok(ServedUntil {
