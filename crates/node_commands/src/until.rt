@@ -8,9 +8,9 @@ use crate::fault::{ServeFault, setup_fault};
 use crate::gates::new_shared;
 use crate::lines::conclude;
 use crate::serving::serve_fault;
+use gate_node::{Open, Passes, RunTallies, Shared, tallies_of};
 use log::Log;
 use ring_map::Ring;
-use gate_node::{Open, Passes, RunTallies, Shared, tallies_of};
 use session_pool::{NoPause, Served, serve};
 use socket_streams::{
     Arrivals, Limits, LogSink, ReplyHalf, RequestHalf, RunWaits, Sessions, Stop, new_run_waits,
@@ -258,12 +258,7 @@ where
     let _unheard = announce(&listener, writer);
     let outcome = serve_until_end(rt, alloc, &listener, &shared, *settings, until);
     if let Ok(outcome) = &outcome {
-        conclude(
-            rt,
-            outcome.served.totals,
-            outcome.tallies.count_all,
-            writer,
-        );
+        conclude(rt, outcome.served.totals, outcome.tallies.count_all, writer);
     }
     outcome
 }

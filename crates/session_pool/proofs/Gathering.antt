@@ -19,7 +19,7 @@ use Rattle.session_pool.specs.Leaving.{IsEndOf, LeavesSession}
 use Rattle.session_pool.specs.Resuming.{RunStep}
 use Rattle.session_pool.specs.Serving.{CountsInStay, RestsWhere}
 use Rattle.session_pool.specs.Suspending.{Origin, SuspendedView}
-use Rattle.session_pool.specs.Tellers.{TellerView, TellerStands, IsCovered, HaveSeenLeft, HaveSeenOne, end_of, ends_in, ends_more, resting_in, rests_more, is_full, are_full, sink_of, resting_of, told_to}
+use Rattle.session_pool.specs.Tellers.{TellerView, IsCovered, HaveSeenLeft, HaveSeenOne, end_of, ends_in, ends_more, resting_in, rests_more, is_full, are_full, sink_of, resting_of, told_to}
 use Rattle.session_pool.specs.Telling.{ToldSession, RestedSession, IsToldSession, IsRestedSession, told_of, count_told, now_of, count_rested, weight_rested, with_passes}
 use Rattle.session_pool.proofs.Tellers.{all_through}
 

@@ -1,28 +1,26 @@
 -- The sessions of a run whose passes have seen beginnings of histories are by steps in these; and where no partition has a fallback, by the register's.
-use Rattle.std.proofs.Common.{◌≡◌, ◌≤◌, ◌<◌, ◌∙◌, ℕ, List, [], ◌∷◌, length, refl, sym, ap, subst}
+use Rattle.std.proofs.Common.{◌≡◌, ℕ, List, [], ◌∷◌, sym, ap, subst}
 use Rattle.std.proofs.lemmas.List.Elements.{All-cons, All-head, All-nil}
-use Rattle.std.specs.Prelude.{Bool, true, false, Option, Some, None, Result, Ok, Err, slice_get, slice_set, zero, suc}
-use Rattle.std.specs.List.{All, AllZip}
-use Rattle.vnode_core.specs.declared.vnode.tally.Tally.{Tally}
+use Rattle.std.specs.Prelude.{false, Option, Some, Result, Ok, Err, slice_get, slice_set, zero, suc}
+use Rattle.std.specs.List.{AllZip}
 use Rattle.riak_msgs.specs.declared.Request.{Request}
 use Rattle.riak_msgs.specs.declared.Reply.{Reply}
 use Rattle.node_session.specs.Courses.{IsOverBy}
 use Rattle.node_session.specs.declared.ended.Ended.{Ended}
 use Rattle.node_session.specs.declared.fault.SessionFault.{SessionFault}
-use Rattle.handoff.specs.Partitions.{AreNone, AreOfNewRun, IsDiverted}
+use Rattle.handoff.specs.Partitions.{AreNone}
 use Rattle.handoff.specs.Partitions.{HandoffView}
-use Rattle.gate_node.specs.Gates.{Gates, handoff_of}
+use Rattle.gate_node.specs.Gates.{Gates}
 use Rattle.gate_node.specs.GateStep.{NodeOverGates}
-use Rattle.gate_node.specs.OneHistory.{IsSeen, ShareHistories, StepIn}
+use Rattle.gate_node.specs.OneHistory.{IsSeen}
 use Rattle.gate_node.specs.Passes.{Sights, ArePassesOf}
 use Rattle.gate_node.specs.Plain.{AnswersAsRegister, AreOfCommands}
 use Rattle.gate_node.specs.Tallies.{GateHistory}
-use Rattle.gate_node.proofs.Keeping.{step-keeps}
 use Rattle.gate_node.proofs.Plain.{plain_step, tallies_plain}
 use Rattle.gate_node.proofs.Histories.{each_seen}
 use Rattle.session_pool.specs.declared.left.EndedSession.{EndedSession}
 use Rattle.session_pool.specs.Leaving.{EndsOver, IsEndOf}
-use Rattle.session_pool.specs.Legal.{AnswersLegally, ToldSessionIsLegal}
+use Rattle.session_pool.specs.Legal.{ToldSessionIsLegal}
 use Rattle.session_pool.specs.Resuming.{AreDiverted, IsLater, RunStep, RunStepIn}
 use Rattle.session_pool.specs.Suspending.{Origin, SuspendedView, first_node}
 use Rattle.session_pool.specs.Telling.{ToldSession, IsToldSession, with_passes}

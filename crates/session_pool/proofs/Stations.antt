@@ -1,5 +1,5 @@
 -- What workers are started with, and what is taken apart of what they leave.
-use Rattle.std.proofs.Common.{◌≡◌, ◌≤◌, ◌<◌, ◌∙◌, ◌+◌, ℕ, Bool, List, [], ◌∷◌, ◌++◌, length, map, arith, sym, ap, subst}
+use Rattle.std.proofs.Common.{◌≡◌, ◌≤◌, ◌<◌, ◌∙◌, ◌+◌, ℕ, Bool, List, [], ◌∷◌, ◌++◌, length, arith, sym, ap, subst}
 use Rattle.std.proofs.lemmas.List.{map-append, length-append}
 use Rattle.std.specs.Prelude.{◌||◌, zero, suc, replicate}
 use Rattle.job_pool.specs.Lists.{Every}

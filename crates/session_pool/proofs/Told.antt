@@ -1,11 +1,11 @@
 -- What a run of the pool comes to.
-use Rattle.std.proofs.Common.{arith, ◌≡◌, ◌∙◌, ◌+◌, ◌⊎◌, ℕ, List, [], ◌∷◌, length, map, refl, sym, ap, subst, inl, inr}
+use Rattle.std.proofs.Common.{arith, ◌≡◌, ◌∙◌, ◌⊎◌, ℕ, List, [], ◌∷◌, length, map, refl, sym, ap, subst, inl, inr}
 use Rattle.std.proofs.lemmas.List.{length-map}
-use Rattle.std.specs.Prelude.{◌||◌, Bool, true, false, Option, Some, Result, slice_get}
+use Rattle.std.specs.Prelude.{◌||◌, Bool, true, false, Option, Result}
 use Rattle.job_pool.specs.Giving.{GaveAll, Leaves}
 use Rattle.job_pool.specs.Lists.{Every, Pairwise, concat}
-use Rattle.job_pool.specs.Turns.{ServedTurn, WorkerTurns, TurnChain, IsChain, firsts_of, lasts_of}
-use Rattle.job_pool.specs.Ends.{IsTurnOfGiven, IsTold, told_by, weight_told, weight_refused}
+use Rattle.job_pool.specs.Turns.{ServedTurn, WorkerTurns, TurnChain, IsChain}
+use Rattle.job_pool.specs.Ends.{IsTurnOfGiven, IsTold, told_by, weight_told}
 use Rattle.job_pool.specs.Telling.{ToldOnce}
 use Rattle.job_pool.specs.declared.fault.RunFault.{RunFault}
 use Rattle.job_pool.specs.declared.fault.RunFault.TheVariants as runs
@@ -24,8 +24,8 @@ use Rattle.session_pool.specs.declared.served.Served.{Served}
 use Rattle.session_pool.specs.Serving.{CountsInStay}
 use Rattle.session_pool.specs.Settling.{Settles, IsFaultAfterTold, pool_fault}
 use Rattle.session_pool.specs.Suspending.{SuspendedView}
-use Rattle.session_pool.specs.Tellers.{TellerView, TellerStands, IsCovered, is_full, are_full, sink_of, resting_of, told_to}
-use Rattle.session_pool.specs.Telling.{TellsSource, LeavesTold, GavePastFullBook, weight_rested}
+use Rattle.session_pool.specs.Tellers.{TellerView, IsCovered, is_full, are_full, sink_of, told_to}
+use Rattle.session_pool.specs.Telling.{TellsSource, LeavesTold, GavePastFullBook}
 use Rattle.session_pool.proofs.Gathering.{all_gathered}
 
 pub every_map : {A B : Type 0} (f : A → B) (P : B → Type 0) (xs : List A) → Every (λ (x : A). P (f x)) xs → Every P (map f xs)

@@ -1,6 +1,5 @@
 -- What sessions of a run over partitions without fallbacks reply: at positions of legal histories of the sibling register.
 use Rattle.std.specs.Prelude.{◌≡◌, ℕ, Bool, true, false, List, [], ◌∷◌, Option}
-use Rattle.std.specs.List.{AllZip}
 use Rattle.vnode_core.specs.declared.vnode.tally.Tally.{Tally}
 use Rattle.handoff.specs.Partitions.{AreNone, AreOfNewRun}
 use Rattle.gate_node.specs.Gates.{Gates}

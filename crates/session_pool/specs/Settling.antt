@@ -7,13 +7,11 @@ use Rattle.job_pool.specs.declared.worker.NumberedEnd.{NumberedEnd}
 use Rattle.stats_book.specs.Counting.{sum_of}
 use Rattle.stats_book.specs.declared.totals.Totals.{Totals}
 use Rattle.gate_node.specs.Gates.{Gates}
-use Rattle.gate_node.specs.Merging.{HaveSeenAllOf}
 use Rattle.gate_node.specs.Passes.{Sights}
 use Rattle.gate_node.specs.declared.fault.PoolFault.{PoolFault}
 use Rattle.gate_node.specs.declared.fault.PoolFault.TheVariants.{NoMemory, NoThread, JobsFailed, BookFull}
 use Rattle.session_pool.specs.declared.end_sink.SessionEnd.{SessionEnd}
 use Rattle.session_pool.specs.declared.served.Served.{Served}
-use Rattle.session_pool.specs.Suspending.{SuspendedView}
 use Rattle.session_pool.specs.Tellers.{TellerView, IsCovered, are_full, sink_of, resting_of}
 
 -- the fault for a fault of the workers' run

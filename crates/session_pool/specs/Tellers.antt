@@ -1,5 +1,5 @@
 -- What a worker keeps of how its sessions were left.
-use Rattle.std.specs.Prelude.{◌≡◌, ◌+◌, ◌≤◌, ◌||◌, ℕ, Bool, true, false, List, [], ◌∷◌, length, map}
+use Rattle.std.specs.Prelude.{◌≡◌, ◌+◌, ◌≤◌, ◌||◌, ℕ, Bool, false, List, [], ◌∷◌, length, map}
 use Rattle.job_pool.specs.Lists.{Every}
 use Rattle.job_pool.specs.declared.worker.NumberedEnd.{NumberedEnd}
 use Rattle.gate_node.specs.Gates.{Gates}

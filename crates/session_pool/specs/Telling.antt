@@ -1,5 +1,5 @@
 -- What a run of the pool comes to.
-use Rattle.std.specs.Prelude.{◌≡◌, ◌+◌, ℕ, Bool, true, false, List, [], ◌∷◌, Option, Some, Result, length, map, slice_get}
+use Rattle.std.specs.Prelude.{◌≡◌, ◌+◌, ℕ, true, false, List, [], ◌∷◌, Option, Some, Result, length, map, slice_get}
 use Rattle.job_pool.specs.Ends.{told_by, weight_told, weight_refused}
 use Rattle.job_pool.specs.Giving.{GaveAll, GaveSome, GaveThenFailed}
 use Rattle.job_pool.specs.Lists.{Every, concat}

@@ -38,7 +38,20 @@ pub struct LeftSession<R: Read, W: Write> {
 
 /// Serves the sessions of a run over the gates that `H` names. All workers share it.
 #[derive(Drop)]
-pub struct Host<'a, H: OfGates, X, T, Q, R, W, G: Ledger, P: Ledger, D: Ledger, E: Ledger, L: Ledger> {
+pub struct Host<
+    'a,
+    H: OfGates,
+    X,
+    T,
+    Q,
+    R,
+    W,
+    G: Ledger,
+    P: Ledger,
+    D: Ledger,
+    E: Ledger,
+    L: Ledger,
+> {
     pub(crate) rt: &'a X,
     pub(crate) shared: &'a Shared,
     pub(crate) book: &'a Book<G, P, D, E, L>,

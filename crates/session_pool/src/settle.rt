@@ -21,17 +21,32 @@ use std::sync::ledger::Ledger;
 
 /// A place for what each worker of a run leaves, made before the run, so that none of it is lost for want of memory.
 #[derive(Drop)]
-pub(crate) struct Places<R: Read, W: Write, K, G: Ledger, P: Ledger, D: Ledger, E: Ledger, L: Ledger> {
+pub(crate) struct Places<
+    R: Read,
+    W: Write,
+    K,
+    G: Ledger,
+    P: Ledger,
+    D: Ledger,
+    E: Ledger,
+    L: Ledger,
+> {
     pub(crate) stocks: Vec<Stock<G, P, D, E, L>>,
     pub(crate) sinks: Vec<K>,
     pub(crate) resting: Vec<Vec<Suspended<R, W>>>,
 }
 
 /// Places for so many workers.
-pub(crate) fn new_places<R: Read, W: Write, K: Drop, G: Ledger, P: Ledger, D: Ledger, E: Ledger, L: Ledger>(
-    alloc: Global,
-    workers: usize,
-) -> Result<Places<R, W, K, G, P, D, E, L>, AllocError>
+pub(crate) fn new_places<
+    R: Read,
+    W: Write,
+    K: Drop,
+    G: Ledger,
+    P: Ledger,
+    D: Ledger,
+    E: Ledger,
+    L: Ledger,
+>(alloc: Global, workers: usize) -> Result<Places<R, W, K, G, P, D, E, L>, AllocError>
     ensures empty { IfOk result (λ places. (places.stocks.items ≡ [])
         × (places.sinks.items ≡ []) × (places.resting.items ≡ [])) }
     ensures room { IfOk result (λ places. (workers ≤ vec_capacity places.stocks)

@@ -181,7 +181,16 @@ impl<R: Read, W: Write> Suspended<R, W> {
 
     /// It goes on over these gates, those that it rested over or what they became, by a share that has counted nothing, with what its worker keeps, where
     /// that does. Each of its calls passes the turnstile.
-    pub(crate) fn go_on<'a, X: Wait, T: Turnstile, G: Ledger, P: Ledger, D: Ledger, E: Ledger, L: Ledger>(
+    pub(crate) fn go_on<
+        'a,
+        X: Wait,
+        T: Turnstile,
+        G: Ledger,
+        P: Ledger,
+        D: Ledger,
+        E: Ledger,
+        L: Ledger,
+    >(
         self,
         rt: &'a X,
         shared: &'a Shared,

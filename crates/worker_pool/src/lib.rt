@@ -42,6 +42,6 @@ pub use job::{End, EndRead, EndWrite, Job};
 pub use job_pool::{JobFault, Jobs, Post};
 pub use laws::pool_replies_are_legal;
 pub use pool::Pool;
-pub use sitting::Sitting;
 pub use session_pool::StreamReadiness;
+pub use sitting::Sitting;
 pub use stream_readiness::Shown;

@@ -42,10 +42,7 @@ impl<G: Ledger, P: Ledger, D: Ledger, E: Ledger, R: Ledger> Tray<G, P, D, E, R> 
     {
         let mut scratch = Scratch::new(alloc);
         let _is_made = scratch.make_room();
-        Tray {
-            stock,
-            scratch,
-        }
+        Tray { stock, scratch }
     }
 
     /// A share for a session, which has counted nothing. None where all were taken.
@@ -67,10 +64,7 @@ impl<G: Ledger, P: Ledger, D: Ledger, E: Ledger, R: Ledger> Tray<G, P, D, E, R> 
     fn into_stock(self) -> Stock<G, P, D, E, R>
         ensures { result ≡ self }
     {
-        let Tray {
-            stock,
-            scratch: _,
-        } = self;
+        let Tray { stock, scratch: _ } = self;
         stock
     }
 }

@@ -1,11 +1,10 @@
-use Rattle.std.proofs.Common.{arith, ◌≡◌, ◌≤◌, ◌∙◌, [], length, map, ap, inl, refl, sym, subst}
+use Rattle.std.proofs.Common.{arith, ◌≡◌, ◌∙◌, [], length, map, ap, inl, refl, sym, subst}
 use Rattle.std.proofs.lemmas.List.{length-map}
 use Rattle.std.proofs.lemmas.Result.{IfOk-weaker, IfErr-weaker}
 use Rattle.job_pool.specs.Workers.{worker_of}
 use Rattle.stats_book.specs.Counting.{zeros}
 use Rattle.stats_book.specs.declared.totals.Totals.{Totals}
 use Rattle.gate_node.specs.Gates.{Gates}
-use Rattle.gate_node.specs.Passes.{ArePassesOf}
 use Rattle.gate_node.specs.declared.fault.PoolFault.{PoolFault}
 use Rattle.session_pool.specs.Settling.{IsFaultAfterTold, Settles}
 use Rattle.session_pool.specs.Tellers.{sink_of}

@@ -1,4 +1,4 @@
-use Rattle.std.proofs.Common.{rules, arith, ◌≡◌, ◌≤◌, ◌<◌, ◌∙◌, ◌∷◌, [], ◌++◌, ℕ, List, length, map, refl, ap, sym, subst}
+use Rattle.std.proofs.Common.{rules, arith, ◌≤◌, ◌∙◌, ◌∷◌, [], ◌++◌, ℕ, length, map, refl, ap, sym, subst}
 use Rattle.std.proofs.lemmas.List.{append_assoc, map-append}
 use Rattle.std.specs.Vec.Iter.{into_iter_items}
 use Rattle.gate_node.specs.Passes.{Sights}

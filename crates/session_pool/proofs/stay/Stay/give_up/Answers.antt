@@ -1,6 +1,6 @@
 use Rattle.std.proofs.Common.{◌∙◌, ap, subst, sym}
 use Rattle.node_session.specs.declared.talk.Talk.{Talk}
-use Rattle.session_pool.specs.Suspending.{StayView, StaysOver}
+use Rattle.session_pool.specs.Suspending.{StaysOver}
 use Rattle.session_pool.proofs.stay.Stay.give_up.Goals as goal
 
 pub invariant_of-self : goal.invariant_of-self
