@@ -3,8 +3,7 @@ use Rattle.std.proofs.Common.{◌≡◌, ◌∙◌, ℕ, List, [], ◌∷◌, re
 use Rattle.std.specs.Prelude.{false, Option, Result, Ok, Err, MatchResult}
 use Rattle.riak_msgs.specs.declared.Request.{Request}
 use Rattle.riak_msgs.specs.declared.Reply.{Reply}
-use Rattle.job_pool.specs.Lists.{Every, Pairwise}
-use Rattle.job_pool.specs.declared.worker.NumberedEnd.{NumberedEnd}
+use Rattle.job_pool.specs.Lists.{Pairwise}
 use Rattle.node_session.specs.Answered.{AnsweredInput}
 use Rattle.node_session.specs.Session.{IsInputEnd, Stops}
 use Rattle.node_session.specs.declared.ended.Ended.{Ended}
@@ -22,11 +21,8 @@ use Rattle.worker_pool.specs.declared.closed.Closed.{Closed}
 use Rattle.worker_pool.specs.declared.job.Job.{Job}
 use Rattle.worker_pool.specs.declared.job.End.{End}
 use Rattle.worker_pool.specs.declared.server.ServedJob.{ServedJob}
-use Rattle.worker_pool.specs.declared.end_sink.SessionEnd.{SessionEnd}
-use Rattle.worker_pool.specs.declared.served.Served.{Served}
-use Rattle.worker_pool.specs.Legal.{PlainRunIsLegal, ToldRunIsLegal}
+use Rattle.worker_pool.specs.Legal.{PlainRunIsLegal}
 use Rattle.worker_pool.specs.Serving.{EndsAtEnd, EndsAtFault, EndsWell, Joins, counted_whole}
-use Rattle.worker_pool.specs.Telling.{ToldSession, IsToldSession, with_passes}
 
 module _ (histories : List GateHistory) {I O : Type 0} (remaining : I → Option (List ℕ)) (contents : O → Option (List ℕ)) (shared : Gates) (none : AreNone shared.fallbacks) (are : AreOfCommands histories) where
   abbrev In : NodeOverGates → Request → Reply → NodeOverGates → Type 0
@@ -89,20 +85,6 @@ module _ (histories : List GateHistory) {I O : Type 0} (remaining : I → Option
   ends_legally (job ∷ jobs) [] h = absurd h
   ends_legally (job ∷ jobs) (end ∷ ends) h = ((h.0.0, h.0.1, joins job (counted_whole end) h.0.0 h.0.1 h.0.2), ends_legally jobs ends h.1)
 
-  told_legally : (jobs : List (Job I O)) (sessions : List (ToldSession I O)) → Every (IsToldSession In remaining contents shared jobs) sessions → Every (IsToldSession Legally remaining contents shared jobs) sessions
-  told_legally jobs [] h = tt
-  told_legally jobs (session ∷ sessions) h = (
-    record {
-      job = h.0.job;
-      before = h.0.before;
-      after = h.0.after;
-      from_zero = h.0.from_zero;
-      counted = h.0.counted;
-      joins = joins session.job (with_passes session.end session.passes false) h.0.before h.0.after h.0.joins;
-    },
-    told_legally jobs sessions h.1,
-  )
-
 pub plain_run_is_legal : {I O : Type 0} (remaining : I → Option (List ℕ)) (contents : O → Option (List ℕ)) (shared : Gates) (workers : ℕ) (jobs : List (Job I O)) (closed : Closed I O)
     → PlainRunIsLegal remaining contents shared workers jobs closed
 plain_run_is_legal remaining contents shared workers jobs closed new none all h =
@@ -112,19 +94,5 @@ plain_run_is_legal remaining contents shared workers jobs closed new none all h 
       of_gates = h.of_gates;
       legal = plain.legal;
       ends = ends_legally h.histories remaining contents shared none plain.commands jobs closed.ends.items h.ends;
-      tallies = h.tallies;
-    }
-
-pub told_run_is_legal : {I O K : Type 0} (remaining : I → Option (List ℕ)) (contents : O → Option (List ℕ)) (told : K → List (NumberedEnd (SessionEnd I O))) (shared : Gates) (jobs : List (Job I O)) (served : Served K)
-    → ToldRunIsLegal remaining contents shared told jobs served
-told_run_is_legal remaining contents told shared jobs served new none all h =
-    let plain = tallies_plain shared h.histories served.tallies.items new none h.of_gates h.tallies (h.counted all) in
-    record {
-      histories = h.histories;
-      of_gates = h.of_gates;
-      legal = plain.legal;
-      sessions = h.sessions;
-      tells = h.tells;
-      each = told_legally h.histories remaining contents shared none plain.commands jobs h.sessions h.each;
       tallies = h.tallies;
     }

@@ -9,7 +9,3 @@ pub mod Histories
 pub mod InHistories
 pub mod Runs
 pub mod LegalRuns
-pub mod Tellers
-pub mod Stations
-pub mod Gathering
-pub mod Told

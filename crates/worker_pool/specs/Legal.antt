@@ -1,20 +1,15 @@
 -- What a run of the pool over partitions without fallbacks replies: at positions of legal histories of the sibling register.
-use Rattle.std.specs.Prelude.{◌≡◌, ℕ, true, List, Option, map}
-use Rattle.job_pool.specs.Ends.{told_by}
-use Rattle.job_pool.specs.Lists.{Every, Pairwise}
-use Rattle.job_pool.specs.declared.worker.NumberedEnd.{NumberedEnd}
+use Rattle.std.specs.Prelude.{◌≡◌, ℕ, true, List, Option}
+use Rattle.job_pool.specs.Lists.{Pairwise}
 use Rattle.handoff.specs.Partitions.{AreNone, AreOfNewRun}
 use Rattle.gate_node.specs.Gates.{Gates}
 use Rattle.gate_node.specs.OneHistory.{AreOfGates}
 use Rattle.gate_node.specs.Plain.{AnswersAsRegister, AreLegal}
 use Rattle.gate_node.specs.Tallies.{GateHistory, IsTally}
 use Rattle.worker_pool.specs.declared.closed.Closed.{Closed}
-use Rattle.worker_pool.specs.declared.end_sink.SessionEnd.{SessionEnd}
 use Rattle.worker_pool.specs.declared.job.Job.{Job}
-use Rattle.worker_pool.specs.declared.served.Served.{Served}
 use Rattle.worker_pool.specs.Run.{ServesAll}
 use Rattle.worker_pool.specs.Serving.{EndsWell}
-use Rattle.worker_pool.specs.Telling.{ToldSession, IsToldSession, TellsAll, told_of}
 
 module _ {I O : Type 0} (remaining : I → Option (List ℕ)) (contents : O → Option (List ℕ)) (shared : Gates) where
   -- Each of these jobs was served to its end. There is one history of the vnode of each partition, legal for the sibling register, of the whole of
@@ -30,20 +25,3 @@ module _ {I O : Type 0} (remaining : I → Option (List ℕ)) (contents : O → 
   abbrev pub PlainRunIsLegal : ℕ → List (Job I O) → Closed I O → Type 0
   PlainRunIsLegal workers jobs closed =
       AreOfNewRun shared.run shared.gates → AreNone shared.fallbacks → closed.count_all ≡ true → ServesAll remaining contents shared workers jobs closed → ServesLegally jobs closed
-
-  module _ {K : Type 0} (told : K → List (NumberedEnd (SessionEnd I O))) where
-    -- What the sinks were told are the ends of these sessions. There is one history of the vnode of each partition, legal for the sibling register, of
-    -- the whole of which its tally is; and each step of each session is one of the register among others, in these histories.
-    pub record TellsLegally (jobs : List (Job I O)) (served : Served K) : Type 0 where
-      pub histories : List GateHistory
-      pub of_gates : AreOfGates shared.gates histories
-      pub legal : AreLegal shared histories
-      pub sessions : List (ToldSession I O)
-      pub tells : map told_of sessions ≡ told_by told served.sinks.items
-      pub each : Every (IsToldSession (AnswersAsRegister shared histories) remaining contents shared jobs) sessions
-      pub tallies : Pairwise IsTally histories served.tallies.items
-
-    -- so it is where no partition of a new run has a fallback, and the tallies count all of the histories
-    abbrev pub ToldRunIsLegal : List (Job I O) → Served K → Type 0
-    ToldRunIsLegal jobs served =
-        AreOfNewRun shared.run shared.gates → AreNone shared.fallbacks → served.count_all ≡ true → TellsAll remaining contents told shared jobs served → TellsLegally jobs served

@@ -3,10 +3,7 @@ ghost use Rattle.std.specs.Prelude.{ℕ, List, Option};
 ghost use Rattle.gate_node.specs.Gates.{Gates};
 ghost use Rattle.worker_pool.specs.declared.closed.Closed.{Closed};
 ghost use Rattle.worker_pool.specs.declared.job.Job.{Job};
-ghost use Rattle.job_pool.specs.declared.worker.NumberedEnd.{NumberedEnd};
-ghost use Rattle.worker_pool.specs.declared.end_sink.SessionEnd.{SessionEnd};
-ghost use Rattle.worker_pool.specs.declared.served.Served.{Served};
-ghost use Rattle.worker_pool.specs.Legal.{PlainRunIsLegal, ToldRunIsLegal};
+ghost use Rattle.worker_pool.specs.Legal.{PlainRunIsLegal};
 
 /// Every reply of every session of [`Pool::run`](crate::Pool::run), but an error of the gate and one for which memory was refused, is legal for the
 /// sibling register: at a position of one legal history of its key's vnode, which has all that the session had seen of that.
@@ -17,16 +14,4 @@ pub fn pool_replies_are_legal<I, O>()
     ensures { (remaining : I → Option (List ℕ)) (contents : O → Option (List ℕ)) (shared : Gates)
         (workers : ℕ) (jobs : List (Job I O)) (closed : Closed I O)
         → PlainRunIsLegal remaining contents shared workers jobs closed }
-{}
-
-/// Every reply of every session of which a sink of [`Pool::serve`](crate::Pool::serve) was told, but an error of the gate and one for which memory was refused,
-/// is legal for the sibling register: at a position of one legal history of its key's vnode, which has all that the session had seen of
-/// that.
-///
-/// It asks what [`pool_replies_are_legal`] asks (`count_all` of [`Served`](crate::Served)).
-pub fn told_replies_are_legal<I, O, K>()
-    ensures { (remaining : I → Option (List ℕ)) (contents : O → Option (List ℕ))
-        (told : K → List (NumberedEnd (SessionEnd I O))) (shared : Gates)
-        (jobs : List (Job I O)) (served : Served K)
-        → ToldRunIsLegal remaining contents shared told jobs served }
 {}

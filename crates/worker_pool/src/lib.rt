@@ -7,9 +7,8 @@
 //! partition is diverted ([`replies_are_at_positions`]). With the ends come the totals of what these sessions counted, each session once
 //! (`specs/Summing`: `SumsSessions`), and the tally of each primary at the end of that history.
 //!
-//! [`Pool::run_with`] is the same by workers that have as many sessions open as their readiness has them take. So has [`Pool::serve`], for the jobs
-//! of a source that may never end; it keeps no end: each worker's sink is told each end as it comes, with the promise of that session
-//! (`specs/Telling`: `IsServedTo`, `TellsSource`).
+//! [`Pool::run_with`] is the same by workers that have as many sessions open as their readiness has them take. For the jobs of a source that may
+//! never end there is `serve` of `session_pool`, which keeps no end.
 //!
 //! What it costs: what a run of `job_pool` costs, the book's lock once for each session, and a thread for each worker. A
 //! tally is one look under a right to read, and a comparison of two numbers for each end.
@@ -29,29 +28,20 @@
 #![tactic(auto)]
 
 mod closed;
-mod end_sink;
-mod host;
 mod job;
-mod kept;
 mod laws;
 mod pool;
-mod seat;
-mod serve;
-mod served;
 mod server;
 mod sitting;
 mod stream_readiness;
-mod teller;
 mod tray;
 
 pub use closed::Closed;
-pub use end_sink::{EndSink, SessionEnd};
 pub use gate_node::{Open, Passes, PoolFault, Shared, Turnstile, replies_are_at_positions};
 pub use job::{End, EndRead, EndWrite, Job};
 pub use job_pool::{JobFault, Jobs, Post};
-pub use laws::{pool_replies_are_legal, told_replies_are_legal};
+pub use laws::pool_replies_are_legal;
 pub use pool::Pool;
-pub use seat::Seat;
-pub use served::Served;
 pub use sitting::Sitting;
-pub use stream_readiness::{Shown, StreamReadiness};
+pub use session_pool::StreamReadiness;
+pub use stream_readiness::Shown;

@@ -11,10 +11,11 @@ ghost use Rattle.worker_pool.specs.Leaving.{LeavesSource, IsFaultAfter, pool_fau
 use crate::closed::Closed;
 use crate::job::{End, EndRead, EndWrite, Job};
 use crate::server::{ServedJob, Server};
-use crate::stream_readiness::{Shown, StreamReadiness, new_rounds};
+use crate::stream_readiness::{Shown, new_rounds};
 use crate::tray::{Tray, stocks_of, trays_of};
 use gate_node::{PoolFault, Shared, Turnstile, tallies_of};
 use job_pool::{Bell, Finished, Jobs, Post, Rounds, RunFault, Wake, Wakes, run_with};
+use session_pool::StreamReadiness;
 use stats_book::{Blanks, Book, Stock, close_stocks, open_stocks};
 use std::alloc::Global;
 use std::marker::{Brand, PhantomData};
@@ -23,13 +24,13 @@ use std::sync::ledger::Ledger;
 use std::thread::Threads;
 
 /// How many shares the book of a run has: more than there are sessions.
-pub(crate) const SHARES: u64 = 18_446_744_073_709_551_615;
+const SHARES: u64 = 18_446_744_073_709_551_615;
 
 /// Workers that serve connections over the gates of a run.
 pub struct Pool;
 
 /// The fault of the run below.
-pub(crate) fn fault_of(fault: RunFault) -> PoolFault
+fn fault_of(fault: RunFault) -> PoolFault
     ensures { result ≡ pool_fault fault }
 {
     match fault {
@@ -158,13 +159,11 @@ where
     let Ok(trays) = trays_of(alloc, stocks) else {
         return Err(PoolFault::NoMemory);
     };
-    let none = Vec::new(alloc);
     let server = Server {
         rt,
         shared,
         book: &book,
         turnstile,
-        kept: none.as_slice(),
         jobs: PhantomData,
     };
     match run_with(rt, alloc, &server, jobs, trays, posts, wakes) {

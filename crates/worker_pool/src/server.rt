@@ -3,7 +3,6 @@ ghost use Rattle.std.specs.Prelude.{◌≡◌, true, false};
 ghost use Rattle.gate_node.specs.Passes.{ArePassesOf};
 
 use crate::job::{End, EndRead, EndWrite, Job};
-use crate::kept::KeptByWorker;
 use crate::sitting::Sitting;
 use crate::tray::Tray;
 use gate_node::{GateNode, Passes, Shared, Turnstile};
@@ -28,8 +27,6 @@ pub struct Server<'a, X, T, I, O, G: Ledger, P: Ledger, D: Ledger, E: Ledger, R:
     pub(crate) shared: &'a Shared,
     pub(crate) book: &'a Book<G, P, D, E, R>,
     pub(crate) turnstile: &'a T,
-    /// What each worker keeps, in the workers' order. None where they keep nothing.
-    pub(crate) kept: &'a [KeptByWorker],
     pub(crate) jobs: PhantomData<Job<I, O>>,
 }
 
@@ -43,23 +40,6 @@ fn parts_of<X: Wait, T: Turnstile, G: Ledger, P: Ledger, D: Ledger, E: Ledger, R
     ensures full { result.2 ≡ false → node.entry.count.book_full ≡ false }
 {
     node.parts()
-}
-
-/// A node with what its worker keeps, where it does.
-fn kept_by<'a, X: Wait, T: Turnstile, G: Ledger, P: Ledger, D: Ledger, E: Ledger, R: Ledger>(
-    node: GateNode<'a, X, T, G, P, D, E, R>,
-    worker: Option<&'a KeptByWorker>,
-) -> GateNode<'a, X, T, G, P, D, E, R>
-    ensures { result ≡ node.entry }
-{
-    let Some(worker) = worker else {
-        return node;
-    };
-    let node = node.with_reserve(&worker.reserve);
-    match &worker.partitions {
-        Some(partitions) => node.with_partitions(partitions),
-        None => node,
-    }
 }
 
 impl<'a, X, T, I, O, G, P, D, E, R> Service for Server<'a, X, T, I, O, G, P, D, E, R>
@@ -116,17 +96,8 @@ where
             passes,
             self.turnstile,
         );
-        let node = kept_by(node, self.kept.get(worker.place));
         let reads = self.shared.reads();
         Ok(Sitting::new(alloc, node, reader, writer, reads))
-    }
-
-    /// Gives the worker's reserve up, where it has one.
-    fn make_room(&self, _alloc: Global, worker: &Tray<G, P, D, E, R>) -> bool {
-        match self.kept.get(worker.place) {
-            Some(kept) => kept.reserve.give_up(self.shared),
-            None => false,
-        }
     }
 
     fn step(
