@@ -12,15 +12,16 @@ use std::sync::{Arc, Wait};
 use std::thread;
 use std::time::Duration;
 
-/// Says when all threads of a run were started, and ends it from outside. Once it is raised the accepting thread accepts no more, and the workers
-/// end their connections. Where it pauses the run the accepting thread accepts no more either, and the workers lay their sessions down, each between
-/// two of its steps; it is given to the run as its pause then too. Both are for good: each run has one of its own.
+/// Says when all threads of a run were started, and ends it from outside, in one of two ways. Once it is raised the accepting thread accepts no more,
+/// and the workers end their connections. Once it pauses the run the accepting thread accepts no more either, and the workers lay their sessions
+/// down, each between two of its steps: for that it is given to the run as its pause too. Where both were said sessions rest. Each is for good, so
+/// each run has a stop of its own.
 ///
 /// ```text
 /// let (waits, stop) = new_run_waits(&rt, alloc, 4)?;
-/// serve(&rt, alloc, &shared, &mut sessions, seats, &Open, &stop, &mut seen)   // two threads have the stop beside this one
-/// stop.pause()                                                                // and what rests is in `resting` of what the run left
-/// stop.raise()                                                                // or: nothing rests, each session has ended
+/// serve(&rt, alloc, &shared, &mut sessions, seats, &Open, &stop, &mut seen)   // until another thread says one of these:
+/// stop.raise()                                                                // it returns once each session was ended
+/// stop.pause()                                                                // it returns with the sessions, which rest
 /// ```
 #[derive(Drop)]
 pub struct Stop {
