@@ -9,3 +9,4 @@ pub mod Stations
 pub mod Gathering
 pub mod Told
 pub mod Legal
+pub mod Sources

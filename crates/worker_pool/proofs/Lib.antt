@@ -3,7 +3,6 @@ pub mod Keeping
 pub mod Closing
 pub mod Ends
 pub mod Faults
-pub mod Sources
 pub mod Summing
 pub mod Histories
 pub mod InHistories

@@ -7,8 +7,8 @@
 //! partition is diverted ([`replies_are_at_positions`]). With the ends come the totals of what these sessions counted, each session once
 //! (`specs/Summing`: `SumsSessions`), and the tally of each primary at the end of that history.
 //!
-//! [`Pool::run_with`] is the same by workers that have as many sessions open as their readiness has them take. For the jobs of a source that may
-//! never end there is `serve` of `session_pool`, which keeps no end.
+//! [`Pool::run_with`] is the same by workers that have as many sessions open as their readiness has them take. For sessions of a source that may
+//! never end, and for such as are to rest, there is `serve` of `session_pool`, which keeps no end.
 //!
 //! What it costs: what a run of `job_pool` costs, the book's lock once for each session, and a thread for each worker. A
 //! tally is one look under a right to read, and a comparison of two numbers for each end.

@@ -8,14 +8,12 @@ use std::alloc::{AllocError, Global};
 use std::marker::Model;
 use std::sync::ledger::Ledger;
 
-/// The shares of a book that a worker's sessions take and give back, what is lent to each of their steps, and which of the run's workers it
-/// is.
+/// The shares of a book that a worker's sessions take and give back, and what is lent to each of their steps.
 ///
 /// Contracts see what the shares that came back have counted.
 pub struct Tray<G: Ledger, P: Ledger, D: Ledger, E: Ledger, R: Ledger> {
     stock: Stock<G, P, D, E, R>,
     pub(crate) scratch: Scratch,
-    pub(crate) place: usize,
 }
 
 /// One call at each place where one is let go.
@@ -24,7 +22,6 @@ impl<G: Ledger, P: Ledger, D: Ledger, E: Ledger, R: Ledger> Drop for Tray<G, P, 
         let Tray {
             stock: _stock,
             scratch: _scratch,
-            place: _place,
         } = self;
     }
 }
@@ -38,13 +35,9 @@ impl<G: Ledger, P: Ledger, D: Ledger, E: Ledger, R: Ledger> Model for Tray<G, P,
 }
 
 impl<G: Ledger, P: Ledger, D: Ledger, E: Ledger, R: Ledger> Tray<G, P, D, E, R> {
-    /// Of the worker in this place, which has served nothing, with this stock. It makes the room that the worker lends to its sessions, once: a
+    /// Of a worker that has served nothing, with this stock. It makes the room that the worker lends to its sessions, once: a
     /// session that has a message in part keeps it. Where there is no memory for it, each session takes its own.
-    pub(crate) fn new(
-        alloc: Global,
-        stock: Stock<G, P, D, E, R>,
-        place: usize,
-    ) -> Tray<G, P, D, E, R>
+    fn new(alloc: Global, stock: Stock<G, P, D, E, R>) -> Tray<G, P, D, E, R>
         ensures { result ≡ stock }
     {
         let mut scratch = Scratch::new(alloc);
@@ -52,7 +45,6 @@ impl<G: Ledger, P: Ledger, D: Ledger, E: Ledger, R: Ledger> Tray<G, P, D, E, R> 
         Tray {
             stock,
             scratch,
-            place,
         }
     }
 
@@ -78,7 +70,6 @@ impl<G: Ledger, P: Ledger, D: Ledger, E: Ledger, R: Ledger> Tray<G, P, D, E, R> 
         let Tray {
             stock,
             scratch: _,
-            place: _,
         } = self;
         stock
     }
@@ -93,8 +84,7 @@ pub(crate) fn trays_of<G: Ledger, P: Ledger, D: Ledger, E: Ledger, R: Ledger>(
 {
     let mut trays = Vec::with_capacity(alloc, stocks.len())?;
     for stock in stocks {
-        let place = trays.len();
-        trays.push(Tray::new(alloc, stock, place))?;
+        trays.push(Tray::new(alloc, stock))?;
     }
     Ok(trays)
 }
