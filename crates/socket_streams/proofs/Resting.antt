@@ -65,3 +65,56 @@ gives_for gates first are given next last session gave gives =
 pub made_for : (gates : Gates) (lists : List (List Session)) (first : SessionsView) → Every (CanGoOn gates) (concat lists) → first.rested ≡ in_turn lists → first.source.gates ≡ gates → GivesOnly GivesSession (CanGoOn gates) first
 made_for gates lists first all rested same =
     gives_for gates first (subst (Every (CanGoOn gates)) (sym rested) (all_in_turn (CanGoOn gates) lists all), same)
+
+-- what is no session
+abbrev IsNoSession : Result (Option Session) JobFault → Type 0
+IsNoSession (Ok (Some session)) = ⊥
+IsNoSession (Ok None) = Unit {0}
+IsNoSession (Err fault) = Unit {0}
+
+at : (rested : List Session) (source : ArrivalsView) (first : SessionsView) (given : Result (Option Session) JobFault) (last : SessionsView)
+    → first.rested ≡ rested → first.source ≡ source → GivesSession first given last → GivesFirst rested source given last
+at rested source first given last is from h =
+    subst (λ (s : ArrivalsView). GivesFirst rested s given last) from (subst (λ (r : List Session). GivesFirst r first.source given last) is h)
+
+-- those that rested were given, and then a session for each of these connections, and then none
+pub record GaveInTurn (rested : List Session) (source : ArrivalsView) (given : List Session) (last : SessionsView) : Type 0 where
+  pub jobs : List Connection
+  pub are : given ≡ rested ++ map (begun_by source.gates) jobs
+  pub gave : GaveAll GivesConnection source jobs last.source
+  pub none : last.rested ≡ []
+
+gave_in_turn : (rested : List Session) (source : ArrivalsView) (given : List Session) (first last : SessionsView)
+    → first.rested ≡ rested → first.source ≡ source → GaveAll GivesSession first given last → GaveInTurn rested source given last
+gave_in_turn [] source [] first last is from h =
+    let end = at [] source h.0 (Ok None) last (ap (λ (s : SessionsView). s.rested) h.1 ∙ is) (ap (λ (s : SessionsView). s.source) h.1 ∙ from) h.2 in
+    record { jobs = []; are = refl; gave = (source, refl, end.1); none = end.0 }
+gave_in_turn (one ∷ rest) source [] first last is from h =
+    let end = at (one ∷ rest) source h.0 (Ok None) last (ap (λ (s : SessionsView). s.rested) h.1 ∙ is) (ap (λ (s : SessionsView). s.source) h.1 ∙ from) h.2 in
+    absurd (subst IsNoSession end.0 tt)
+gave_in_turn [] source (session ∷ given) first last is from h =
+    let next = h.1.0 in
+    let here = at [] source first (Ok (Some session)) next is from h.1.1 in
+    let more = gave_in_turn [] next.source given next last here.0 refl (h.0, h.1.2, h.2) in
+    let same : next.source.gates ≡ source.gates = here.1.1.0.gates in
+    record {
+      jobs = here.1.0 ∷ more.jobs;
+      are = cc (here.1.2, subst (λ (gates : Gates). given ≡ map (begun_by gates) more.jobs) same more.are);
+      gave = (more.gave.0, (next.source, here.1.1, more.gave.1), more.gave.2);
+      none = more.none;
+    }
+gave_in_turn (one ∷ rest) source (session ∷ given) first last is from h =
+    let next = h.1.0 in
+    let here = at (one ∷ rest) source first (Ok (Some session)) next is from h.1.1 in
+    let more = gave_in_turn rest source given next last here.1 here.2 (h.0, h.1.2, h.2) in
+    let same : session ≡ one = ap (session_in one) here.0 in
+    record {
+      jobs = more.jobs;
+      are = cc (same, more.are);
+      gave = more.gave;
+      none = more.none;
+    }
+
+-- All that a source gave until there was none: each session that rested, and then one for each connection that came, which is to begin.
+pub gave_sessions : (first : SessionsView) (given : List Session) (last : SessionsView) → GaveAll GivesSession first given last → GaveInTurn first.rested first.source given last
+gave_sessions first given last h = gave_in_turn first.rested first.source given first last refl refl h
