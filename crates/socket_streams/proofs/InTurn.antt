@@ -1,5 +1,5 @@
 -- Lists of lists, from the last one of the last list on.
-use Rattle.std.proofs.Common.{◌≡◌, ◌∙◌, ℕ, List, [], ◌∷◌, ◌++◌, map, length, Vec, Global, ap, refl, sym, subst, arith}
+use Rattle.std.proofs.Common.{◌≡◌, ◌∙◌, List, [], ◌∷◌, ◌++◌, map, length, Vec, Global, ap, sym, subst, arith}
 use Rattle.std.specs.Prelude.{reverse}
 use Rattle.std.proofs.lemmas.List.{append-nil, append_assoc, drop_all, map-append, reverse-append, reverse-reverse}
 use Rattle.job_pool.specs.Lists.{Every, concat}

@@ -23,7 +23,7 @@ pub type SocketSession = Suspended<RequestHalf, ReplyHalf>;
 /// gives, as the [`Arrivals`] say.
 ///
 /// Each session that rests is given once, the last one of the last list first. They take no place among the connections that may be accepted, and
-/// are given where the run is stopped or paused too. Where a run took none of them they are had back.
+/// are given where the run is stopped or paused too. Those that weren't given come back by [`Sessions::into_rested`].
 ///
 /// ```text
 /// Sessions::new(alloc, arrivals, [[a, b], [], [c]])

@@ -1,4 +1,4 @@
-use Rattle.std.proofs.Common.{arith, length, ◌++◌, drop}
+use Rattle.std.proofs.Common.{arith, ◌++◌, drop}
 use Rattle.std.proofs.lemmas.List.{length-drop, take_rest}
 use Rattle.socket_streams.proofs.Sends.{sends_on}
 use Rattle.socket_streams.proofs.halves.send_rest.Goals as goal

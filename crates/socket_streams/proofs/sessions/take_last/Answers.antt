@@ -1,4 +1,4 @@
-use Rattle.std.proofs.Common.{◌≡◌, ◌∙◌, length, sym, arith}
+use Rattle.std.proofs.Common.{◌∙◌, sym, arith}
 use Rattle.socket_streams.proofs.InTurn.{takes_last, passes_empty}
 use Rattle.socket_streams.proofs.sessions.take_last.Goals as goal
 
