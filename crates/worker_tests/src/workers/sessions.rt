@@ -1,0 +1,161 @@
+//! A source of sessions, those that rest first, and runs of it.
+ghost use Rattle.std.specs.Prelude.{◌≡◌, ◌+◌, ◌≤◌, length, map, vec_len, vec_capacity, IfOk};
+ghost use Rattle.job_pool.specs.Lists.{Every, concat};
+ghost use Rattle.gate_node.specs.Passes.{ArePassesOf};
+ghost use Rattle.session_pool.specs.Suspending.{CanGoOn};
+ghost use Rattle.session_pool.specs.Tellers.{IsNewSeat};
+
+use crate::workers::kept_ends::KeptEnds;
+use crate::workers::script::{Line, Wires, streams_of};
+use crate::workers::seats::TestSeat;
+use crate::workers::streams::{Input, Output};
+use session_pool::{
+    JobFault, Jobs, Open, Passes, Pause, PoolFault, Served, Shared, Suspended, serve,
+};
+use std::marker::Model;
+use std::sync::Wait;
+use std::sync::atomic::{AtomicU64, Ordering};
+use std::thread::Threads;
+
+/// A session of a test.
+pub type TestSession = Suspended<Input, Output>;
+
+/// What a run of a test leaves.
+pub type TestServed = Served<Input, Output, KeptEnds>;
+
+/// Is raised once it was looked at so often.
+#[derive(Drop)]
+pub struct AfterLooks {
+    pub most: u64,
+    pub looks: AtomicU64,
+}
+
+impl Pause for AfterLooks {
+    ghost can_be_raised = { Unit {0} };
+
+    fn is_raised(&self) -> bool {
+        self.looks.fetch_add(1, Ordering::SeqCst) >= self.most
+    }
+}
+
+/// Gives the sessions that rest, the last one first, and a new one for each line, by new passes; then none, or a fault.
+#[derive(Drop)]
+pub struct Sessions<'a> {
+    shared: &'a Shared,
+    wires: Wires<'a>,
+    resting: Vec<TestSession>,
+    lines: &'a [Line],
+    /// The number of the first of these lines.
+    number: usize,
+    fails: bool,
+}
+
+impl<'a> Model for Sessions<'a> {
+    ghost use Rattle.job_pool.specs.Lists.{Every};
+    ghost use Rattle.gate_node.specs.Gates.{Gates};
+    ghost use Rattle.session_pool.specs.Suspending.{CanGoOn};
+
+    ghost Value = { Gates };
+
+    ghost view = { λ s. s.shared.now };
+
+    ghost invariant = { λ s. Every (CanGoOn s.shared.now) s.resting.items };
+}
+
+impl<'a> Sessions<'a> {
+    /// Gives these that rest, and new ones for these lines, of which the first has this number.
+    pub fn new(
+        shared: &'a Shared,
+        wires: Wires<'a>,
+        resting: Vec<TestSession>,
+        lines: &'a [Line],
+        number: usize,
+        fails: bool,
+    ) -> Sessions<'a>
+        requires { Every (CanGoOn shared.now) resting.items }
+        ensures { result ≡ shared.now }
+    {
+        Sessions {
+            shared,
+            wires,
+            resting,
+            lines,
+            number,
+            fails,
+        }
+    }
+}
+
+/// A session over the line of this number that is to begin, by new passes. None where memory is refused.
+fn new_session(
+    shared: &Shared,
+    wires: Wires<'_>,
+    number: usize,
+    line: &Line,
+) -> Result<TestSession, JobFault>
+    ensures { IfOk result (CanGoOn shared.now) }
+{
+    let Ok(passes) = Passes::new(wires.alloc, shared) else {
+        return Err(JobFault);
+    };
+    match streams_of(wires, number, line) {
+        Some((reader, writer)) => Ok(Suspended::new(
+            wires.alloc,
+            shared,
+            passes,
+            reader,
+            writer,
+        )),
+        None => Err(JobFault),
+    }
+}
+
+impl<'a> Jobs for Sessions<'a> {
+    type Job = TestSession;
+
+    ghost use Rattle.std.specs.Prelude.{◌≡◌, ⊤, MatchResult, MatchOption};
+    ghost use Rattle.session_pool.specs.Suspending.{CanGoOn};
+
+    ghost gives = { λ first given last. (last ≡ first) × MatchResult given
+        (λ next. MatchOption next ⊤ (CanGoOn first))
+        (λ fault. ⊤) };
+
+    fn next(&mut self) -> Result<Option<TestSession>, JobFault> {
+        if let Some(session) = self.resting.pop() {
+            return Ok(Some(session));
+        }
+        let Some((line, rest)) = self.lines.split_first() else {
+            return if self.fails { Err(JobFault) } else { Ok(None) };
+        };
+        match new_session(self.shared, self.wires, self.number, line) {
+            Ok(session) => {
+                self.lines = rest;
+                self.number = self.number.saturating_add(1);
+                Ok(Some(session))
+            }
+            Err(fault) => Err(fault),
+        }
+    }
+}
+
+/// A run of these sessions over these gates on the workers of these seats.
+pub fn play<X: Threads + Wait + Sync, Q: Pause + Sync>(
+    rt: &X,
+    shared: &Shared,
+    mut sessions: Sessions<'_>,
+    seats: Vec<TestSeat>,
+    pause: &Q,
+    seen: &mut Passes,
+) -> Result<TestServed, PoolFault>
+    requires of_gates { sessions ≡ shared.now }
+    requires seen { ArePassesOf shared.now seen.old }
+    requires count { (1 ≤ length seats.items) × (length seats.items ≤ 2) }
+    requires new { Every (IsNewSeat (λ sink. sink.ends.items)
+        (λ sink n. vec_len sink.ends + n ≤ vec_capacity sink.ends)) seats.items }
+    ensures resting { IfOk result (λ served. Every (CanGoOn shared.now)
+        (concat (map (λ one. one.items) served.resting.items))) }
+    ensures seen { ArePassesOf shared.now seen.new }
+{
+    let alloc = sessions.wires.alloc;
+    serve(rt, alloc, shared, &mut sessions, seats, &Open, pause, seen)
+}
