@@ -32,11 +32,7 @@ pub struct Wake {
 pub type TestSeat = Seat<KeptEnds, InTurn, Wake>;
 
 /// A seat, whose sink has memory for so many sessions.
-fn new_seat(
-    alloc: Global,
-    rooms: u32,
-    counts: &Arc<Counts, Global>,
-) -> Result<TestSeat, AllocError>
+fn new_seat(alloc: Global, rooms: u32, counts: &Arc<Counts, Global>) -> Result<TestSeat, AllocError>
     ensures { IfOk result (IsNewSeat (λ sink. sink.ends.items)
         (λ sink n. vec_len sink.ends + n ≤ vec_capacity sink.ends)) }
 {

@@ -99,13 +99,7 @@ fn new_session(
         return Err(JobFault);
     };
     match streams_of(wires, number, line) {
-        Some((reader, writer)) => Ok(Suspended::new(
-            wires.alloc,
-            shared,
-            passes,
-            reader,
-            writer,
-        )),
+        Some((reader, writer)) => Ok(Suspended::new(wires.alloc, shared, passes, reader, writer)),
         None => Err(JobFault),
     }
 }

@@ -147,10 +147,7 @@ const ROWS: &[Row] = &[
     },
     Row {
         shows: "a session more begins in each run, behind those that rest",
-        manner: Manner {
-            begins: 1,
-            ..PLAIN
-        },
+        manner: Manner { begins: 1, ..PLAIN },
         run: &THREE,
         looks: 16,
         refused: 0,
@@ -204,15 +201,7 @@ fn pause_once<X: Threads + Wait + Sync>(
     ensures seen { IfSome result.0 (λ next. ArePassesOf shared.now next.seen) }
 {
     let pause = after_looks(looks);
-    let next = run_once(
-        rt,
-        alloc,
-        shared,
-        row.manner,
-        row.run.lines,
-        stage,
-        &pause,
-    );
+    let next = run_once(rt, alloc, shared, row.manner, row.run.lines, stage, &pause);
     (next, pause.looks.load(Ordering::SeqCst) > looks)
 }
 
@@ -250,15 +239,7 @@ fn goes_on<X: Threads + Wait + Sync>(
         begins: usize::MAX,
         ..row.manner
     };
-    match run_once(
-        rt,
-        alloc,
-        shared,
-        manner,
-        row.run.lines,
-        stage,
-        &NoPause,
-    ) {
+    match run_once(rt, alloc, shared, manner, row.run.lines, stage, &NoPause) {
         Some(stage) => is_done(rt, alloc, shared, row, stage),
         None => false,
     }
@@ -311,7 +292,11 @@ fn is_paused<X: Threads + Wait + Sync>(
 fn sessions_rest_after_each_step(rt: HostRuntime) {
     for row in ROWS {
         for looks in 0..row.looks.saturating_add(1) {
-            assert!(rt; is_paused(&rt, rt.alloc(), row, looks, None), "{}: {looks}", row.shows);
+            assert!(rt;
+                is_paused(&rt, rt.alloc(), row, looks, None),
+                "{}: {looks}",
+                row.shows
+            );
         }
     }
 }

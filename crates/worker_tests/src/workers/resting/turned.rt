@@ -258,13 +258,7 @@ fn is_joint<X: Wait>(rt: &X, alloc: Global, shared: &Shared, turned: &Turned) ->
 }
 
 /// Whether the session is over, and all was counted.
-fn is_done<X: Wait>(
-    rt: &X,
-    alloc: Global,
-    shared: &Shared,
-    stage: Stage,
-    turned: &Turned,
-) -> bool
+fn is_done<X: Wait>(rt: &X, alloc: Global, shared: &Shared, stage: Stage, turned: &Turned) -> bool
     requires { ArePassesOf shared.now stage.seen }
 {
     let wanted = Totals {
