@@ -1,7 +1,8 @@
 //! Serving for as long as is wanted.
 
 ghost use Rattle.std.specs.Prelude.{◌≡◌, ◌≤◌, None, Some, false, length, IfOk, IfSome};
-ghost use Rattle.node_commands.specs.Runs.{AreTold, IsServedUntil};
+ghost use Rattle.gate_node.specs.Passes.{ArePassesOf};
+ghost use Rattle.node_commands.specs.Runs.{AreTold, IsServedUntil, IsTallied};
 
 use crate::fault::{ServeFault, setup_fault};
 use crate::gates::new_shared;
@@ -9,15 +10,19 @@ use crate::lines::conclude;
 use crate::serving::serve_fault;
 use log::Log;
 use ring_map::Ring;
-use socket_streams::{Arrivals, Limits, LogSink, RunWaits, Stop, new_run_waits, new_seats};
+use gate_node::{Open, Passes, RunTallies, Shared, tallies_of};
+use session_pool::{NoPause, Served, serve};
+use socket_streams::{
+    Arrivals, Limits, LogSink, ReplyHalf, RequestHalf, RunWaits, Sessions, Stop, new_run_waits,
+    new_seats,
+};
 use std::alloc::Global;
 use std::io::{Read, Write};
 use std::net::{Net, TcpListener};
 use std::rt::Clock;
 use std::sync::Wait;
 use std::thread::{Scope, Threads};
-use std::{io, thread};
-use worker_pool::{Open, Pool, Served, Shared};
+use std::{io, slice, thread};
 
 /// How a server for as many clients as come serves.
 #[derive(Clone, Copy)]
@@ -40,7 +45,9 @@ pub struct UntilSettings {
 #[derive(Drop)]
 pub struct ServedUntil<'a, T> {
     /// What the workers did with the connections that came to them, and what all that comes to.
-    pub served: Served<LogSink<'a, T>>,
+    pub served: Served<RequestHalf, ReplyHalf, LogSink<'a, T>>,
+    /// The tally of each vnode behind the last of them, of all that its connections saw of it, in the order of the partitions.
+    pub tallies: RunTallies,
     /// How many connections were accepted.
     pub connections: u64,
     /// How many of them were closed before they came to a worker, for want of memory.
@@ -74,6 +81,32 @@ where
     }
 }
 
+/// What came of connections, of whose ends these passes have seen all that their sessions had: with the tallies of the vnodes.
+fn tally<'a, T>(
+    rt: &'a T,
+    alloc: Global,
+    shared: &Shared,
+    served: Served<RequestHalf, ReplyHalf, LogSink<'a, T>>,
+    connections: u64,
+    closed: u64,
+    seen: &Passes,
+) -> Result<ServedUntil<'a, T>, ServeFault>
+where
+    T: Wait,
+    requires { ArePassesOf shared.now seen.now }
+    ensures { IfOk result (IsTallied shared.now served connections closed seen.now) }
+{
+    match tallies_of(rt, alloc, shared, slice::from_ref(seen)) {
+        Ok(tallies) => Ok(ServedUntil {
+            served,
+            tallies,
+            connections,
+            closed,
+        }),
+        Err(_) => Err(ServeFault::NoMemory),
+    }
+}
+
 /// Serves the connections of a listener, by workers that wait with these.
 fn serve_over<'a, T>(
     rt: &'a T,
@@ -89,7 +122,7 @@ where
     T: Log + Clock + Net + Threads + Wait + Sync,
     requires workers { (1 ≤ length waits.workers.items) × (length waits.workers.items ≤ 64) }
     ensures served { IfOk result (λ outcome. AreTold shared.now outcome.served
-        outcome.connections outcome.closed) }
+        outcome.tallies outcome.connections outcome.closed) }
     ensures most { IfOk result (λ outcome.
         IfSome settings.connections (λ limit. outcome.connections ≤ limit)) }
     ensures all { can_stop ≡ false → IfOk result (λ outcome.
@@ -105,16 +138,28 @@ where
         can_stop,
         tries: None,
     };
-    let mut arrivals = match Arrivals::new(rt, alloc, listener, accepting, shared, stop, limits) {
+    let arrivals = match Arrivals::new(rt, alloc, listener, accepting, shared, stop, limits) {
         Ok(arrivals) => arrivals,
         Err(error) => return Err(setup_fault(&error)),
     };
-    match Pool::serve(rt, alloc, shared, &mut arrivals, seats, &Open) {
-        Ok(served) => Ok(ServedUntil {
-            served,
-            connections: arrivals.accepted(),
-            closed: arrivals.refused(),
-        }),
+    let Ok(mut seen) = Passes::new(alloc, shared) else {
+        return Err(ServeFault::NoMemory);
+    };
+    let mut sessions = Sessions::new(alloc, arrivals, Vec::new(alloc));
+    match serve(
+        rt,
+        alloc,
+        shared,
+        &mut sessions,
+        seats,
+        &Open,
+        &NoPause,
+        &mut seen,
+    ) {
+        Ok(served) => {
+            let (connections, closed) = (sessions.accepted(), sessions.refused());
+            tally(rt, alloc, shared, served, connections, closed, &seen)
+        }
         Err(fault) => Err(serve_fault(fault, ServeFault::AcceptFailed)),
     }
 }
@@ -133,7 +178,7 @@ where
     I: Read + Send + Drop,
     requires workers { (1 ≤ settings.workers) × (settings.workers ≤ 64) }
     ensures served { IfOk result (λ outcome. AreTold shared.now outcome.served
-        outcome.connections outcome.closed) }
+        outcome.tallies outcome.connections outcome.closed) }
     ensures most { IfOk result (λ outcome.
         IfSome settings.connections (λ limit. outcome.connections ≤ limit)) }
     ensures all { until ≡ None → IfOk result (λ outcome.
@@ -151,7 +196,7 @@ where
             requires workers { (1 ≤ length waits.workers.items) × (length waits.workers.items ≤ 64) }
             requires stops { until ≡ None → can_stop ≡ false }
             ensures served { IfOk result (λ outcome. AreTold shared.entry.now outcome.served
-                outcome.connections outcome.closed) }
+                outcome.tallies outcome.connections outcome.closed) }
             ensures most { IfOk result (λ outcome.
                 IfSome settings.connections (λ limit. outcome.connections ≤ limit)) }
             ensures all { until ≡ None → IfOk result (λ outcome.
@@ -212,9 +257,13 @@ where
     };
     let _unheard = announce(&listener, writer);
     let outcome = serve_until_end(rt, alloc, &listener, &shared, *settings, until);
-    if let Ok(served) = &outcome {
-        let served = &served.served;
-        conclude(rt, served.totals, served.count_all, writer);
+    if let Ok(outcome) = &outcome {
+        conclude(
+            rt,
+            outcome.served.totals,
+            outcome.tallies.count_all,
+            writer,
+        );
     }
     outcome
 }

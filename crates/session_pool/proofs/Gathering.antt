@@ -77,12 +77,12 @@ or_false true b h = absurd (cc h)
 or_false false b h = (refl, h)
 
 weight_append : {E : Type 0} (w : ℕ → ℕ) (xs ys : List (NumberedEnd E)) → weight_told w (xs ++ ys) ≡ weight_told w xs + weight_told w ys
-weight_append w [] ys = refl
+weight_append w [] ys = omega arith
 weight_append w (x ∷ xs) ys = let rest = weight_append w xs ys in omega (arith, rest)
 
 module _ {R W : Type 0} where
   weight_rested_append : (w : ℕ → ℕ) (xs ys : List (RestedSession R W)) → weight_rested w (xs ++ ys) ≡ weight_rested w xs + weight_rested w ys
-  weight_rested_append w [] ys = refl
+  weight_rested_append w [] ys = omega arith
   weight_rested_append w (x ∷ xs) ys = let rest = weight_rested_append w xs ys in omega (arith, rest)
 
 module _ {R W : Type 0} (may_rest : Type 0) (remaining : R → Option (List ℕ)) (contents : W → Option (List ℕ)) (shared : Gates) (given : List (SuspendedView R W)) (seen : Sights) where

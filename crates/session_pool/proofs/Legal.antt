@@ -70,7 +70,7 @@ module _ {R W : Type 0} (remaining : R → Option (List ℕ)) (contents : W → 
   -- a session whose passes have seen beginnings of histories is by steps in these
   pub ends_at : (origin : Origin) (ended : EndedSession R W) (after : NodeOverGates) → AllZip IsSeen histories ended.passes.primaries → EndsOver remaining contents shared RunStep origin ended after → EndsOver remaining contents shared (RunStepIn histories shared) origin ended after
   ends_at origin ended after saw h =
-      let reaches = (subst (λ (ps : Sights). AllZip IsSeen histories ps.primaries) (sym h.left) saw, h.reaches) in
+      let reaches : AllZip IsSeen histories after.passes.primaries × IsLater after.shared shared = (subst (λ (ps : Sights). AllZip IsSeen histories ps.primaries) (sym h.left) saw, h.reaches) in
       record {
         from = h.from;
         later = h.later;

@@ -1,5 +1,5 @@
 -- A session that goes on, and rests again or ends.
-use Rattle.std.proofs.Common.{◌≡◌, ◌∙◌, ℕ, List, false, refl, sym, ap, subst}
+use Rattle.std.proofs.Common.{◌≡◌, ◌∙◌, ◌⊎◌, ℕ, List, false, refl, sym, ap, subst, inl, inr}
 use Rattle.std.specs.Prelude.{Bool, Option}
 use Rattle.riak_msgs.specs.declared.Request.{Request}
 use Rattle.riak_msgs.specs.declared.Reply.{Reply}
@@ -16,6 +16,7 @@ use Rattle.session_pool.specs.declared.left.EndedSession.{EndedSession}
 use Rattle.session_pool.specs.declared.left.Left.{Left}
 use Rattle.session_pool.specs.declared.left.Left.TheVariants as lefts
 use Rattle.session_pool.specs.Leaving.{EndsOver, IsEnd, IsLeftAs, LeavesSession}
+use Rattle.session_pool.specs.Serving.{MayBeLeft, RestsWhere}
 use Rattle.session_pool.specs.Resuming.{IsLater, RunNodeView, RunNodeStep, RunStep, standing}
 use Rattle.session_pool.specs.Suspending.{Origin, SuspendedView, StayView, IsUnderWay, IsOpen, StaysOver, first_node}
 use Rattle.session_pool.proofs.Keeping.{came_keeps}
@@ -160,3 +161,8 @@ module _ {R W : Type 0} (remaining : R → Option (List ℕ)) (contents : W → 
           counts = λ whole. ap (λ (t : Totals). both t counted) (sym stays.before) ∙ counts whole ∙ ap (λ (s : SuspendedView R W). s.rest.count.counted) (sym same);
           room = λ whole. ap (λ (s : SuspendedView R W). s.rest.count.book_full) same ∙ room whole;
         }
+
+-- one that is left where it may be rests only where that is allowed
+pub rests_where : {R W : Type 0} (may_rest : Type 0) (stage : Stage) (left : Left R W) → MayBeLeft may_rest stage → (IsOver stage → IsEnd left) → RestsWhere may_rest left
+rests_where may_rest stage (lefts.Ended ended) may is = tt
+rests_where may_rest stage (lefts.Rests now) may is = elim may [ inl over ↦ absurd (is over) | inr allowed ↦ allowed ]

@@ -1,5 +1,5 @@
 -- What workers are started with, and what is taken apart of what they leave.
-use Rattle.std.proofs.Common.{◌≡◌, ◌∙◌, ◌+◌, ℕ, Bool, List, [], ◌∷◌, ◌++◌, length, map, arith, sym, ap, subst}
+use Rattle.std.proofs.Common.{◌≡◌, ◌≤◌, ◌<◌, ◌∙◌, ◌+◌, ℕ, Bool, List, [], ◌∷◌, ◌++◌, length, map, arith, sym, ap, subst}
 use Rattle.std.proofs.lemmas.List.{map-append, length-append}
 use Rattle.std.specs.Prelude.{◌||◌, zero, suc, replicate}
 use Rattle.job_pool.specs.Lists.{Every}
@@ -42,6 +42,18 @@ module _ {S U T : Type 0} (Z : S → Type 0) (N : U → Type 0) (P Q : T → Typ
         omega (arith, before, stocks_before, h.4),
         omega (arith, sizes, before, h.5),
       )
+
+-- room for one of a list that isn't at its end
+pub room_left : {A : Type 0} (done left rest all : List A) (one : A) (n cap : ℕ) → done ++ left ≡ all → left ≡ one ∷ rest → n ≡ length done → length all ≤ cap → n < cap
+room_left done left rest all one n cap is next many room =
+    let sizes : length all ≡ length done + length (one ∷ rest) = sym (ap length is) ∙ ap (λ l. length (done ++ l)) next ∙ length-append done (one ∷ rest) in
+    omega (arith, sizes, many, room)
+
+pub one_longer : {A B : Type 0} (xs xs' : List A) (x : A) (ys : List B) (y : B) → xs' ≡ xs ++ x ∷ [] → length xs ≡ length ys → length xs' ≡ length (ys ++ y ∷ [])
+one_longer xs xs' x ys y is same =
+    let here : length xs' ≡ length xs + 1 = ap length is ∙ length-append xs (x ∷ []) in
+    let there = length-append ys (y ∷ []) in
+    omega (arith, here, there, same)
 
 module _ {R W K : Type 0} (told : K → List (NumberedEnd (SessionEnd R W))) (gates : Gates) where
   full_behind : (tellers : List (TellerView R W K)) (teller : TellerView R W K) → are_full (tellers ++ teller ∷ []) ≡ (are_full tellers || teller.book_full)

@@ -2,3 +2,4 @@
 pub mod Accepting
 pub mod Arriving
 pub mod Sending
+pub mod Sessions

@@ -6,6 +6,7 @@ ghost use Rattle.socket_streams.specs.Arriving.{ArrivalsView, IsSameSource, IsNe
 use crate::accept_fault::AcceptFault;
 use crate::connection::Socket;
 use crate::halves::{ReplyHalf, RequestHalf, new_halves, new_socket};
+use crate::limits::Limits;
 use crate::log_sink::log_refused;
 use crate::pause::PAUSE_MILLIS;
 use crate::spare::Spare;
@@ -27,20 +28,8 @@ use worker_pool::{Job, JobFault, Jobs, Passes, Shared};
 /// The token of the listener.
 const LISTENER: usize = 0;
 
-/// How many connections of a listener are accepted, and how often that is tried.
-#[derive(Clone, Copy)]
-pub struct Limits {
-    /// How many are accepted at most, if there is such a number.
-    pub connections: Option<u64>,
-    /// Whether one that is closed for want of memory is one of those that were accepted.
-    pub counts_refused: bool,
-    /// Whether something may raise the stop before.
-    pub can_stop: bool,
-    /// Behind how many tries in a row that gave no connection none is made any more, if there is such a number.
-    pub tries: Option<u32>,
-}
-
-/// The connections of a listener, each with new passes of the gates of a run, until as many were accepted as are to be, or serving is stopped.
+/// The connections of a listener, each with new passes of the gates of a run, until as many were accepted as are to be, or the run is stopped or
+/// paused.
 ///
 /// One for which memory is refused is closed; whether it is one of those that were accepted its limits say. One that failed before it was
 /// accepted is passed over. Where the system has no descriptor or no memory for a further one, that is logged, and it is accepted again every
@@ -134,6 +123,18 @@ impl<'a, X, L: OpenListener<Stream = TcpStream> + AsRawFd> Arrivals<'a, X, L> {
         })
     }
 
+    /// The gates that its connections are for.
+    pub(crate) fn shared(&self) -> &Shared
+        ensures { result.now ≡ self.now.gates }
+    {
+        self.shared
+    }
+
+    /// All threads of the run were started: it is asked for its first job then.
+    pub(crate) fn start(&self) {
+        self.stop.start();
+    }
+
     /// How many connections were accepted.
     pub fn accepted(&self) -> u64
         ensures count { result ≡ self.now.given + self.now.refused }
@@ -172,7 +173,7 @@ impl<'a, X, L: OpenListener<Stream = TcpStream> + AsRawFd> Arrivals<'a, X, L> {
     fn is_stopped(&self) -> bool
         ensures { self.now.can_stop ≡ false → result ≡ false }
     {
-        self.limits.can_stop && self.stop.is_raised()
+        self.limits.are_cut(self.stop)
     }
 
     /// Whether no more are accepted.
@@ -266,10 +267,10 @@ where
         ensures { self.new ≡ self.old }
     {
         self.failures = self.failures.saturating_add(1);
-        match self.limits.tries {
-            Some(most) if self.failures >= most => Err(JobFault),
-            _ => Ok(()),
+        if self.limits.are_tried(self.failures) {
+            return Err(JobFault);
         }
+        Ok(())
     }
 
     /// Logs that there was no descriptor or no memory for a connection, where that wasn't logged yet.
@@ -378,8 +379,7 @@ where
     ghost gives = { GivesConnection };
 
     fn next(&mut self) -> Result<Option<Job<RequestHalf, ReplyHalf>>, JobFault> {
-        // a run asks for its first job once all threads were started
-        self.stop.start();
+        self.start();
         let rt = self.rt;
         for _ in rt.forever() {
             if self.has_ended() {

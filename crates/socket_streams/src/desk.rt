@@ -11,22 +11,26 @@ use crate::worker_clock::WorkerClock;
 use job_pool::{Moved, Turn};
 use mio::unix::SourceFd;
 use mio::{Events, Interest, Poll, Token};
+use session_pool::StreamReadiness;
 use std::alloc::Global;
 use std::io::ErrorKind;
 use std::rt::Clock;
 use std::sync::{Arc, Wait};
 use std::time::Duration;
 use std::{io, thread};
-use worker_pool::StreamReadiness;
 
 /// What a worker waits with whose sessions are over sockets: for these and for its bell, with `mio`.
 ///
 /// A connection has a turn where its socket is ready. Where it was silent for too long, or serving is stopped, it has one ordinary turn, and where that
-/// ends in waiting, turns in which it ends rather than wait. The worker takes a task where its bell was rung for one, and its stop mark once
-/// no connection is open and no socket lingers. It takes no memory before its first task, and is woken once all threads of the run were started.
+/// ends in waiting, turns in which it ends rather than wait. Once the run pauses, each connection has a turn, in which it is laid down. The worker takes
+/// a task where its bell was rung for one, and its stop mark once no connection is open and no socket lingers. In a run that pauses it doesn't wait for
+/// sockets that linger: they are closed with it. It takes no memory before its first task, and is woken once all threads of the run were started.
+///
+/// A connection that goes on in a run is watched as a new one is, by that run's desk: its socket stays as it was when the connection was laid down, but
+/// that nothing is reported of it in between.
 #[derive(Drop)]
-pub struct SocketDesk<'a, 's, X> {
-    rt: &'a X,
+pub struct SocketDesk<'s, X> {
+    rt: &'s X,
     stop: &'s Stop,
     door: Arc<Door, Global>,
     waits: Waits,
@@ -44,6 +48,8 @@ pub struct SocketDesk<'a, 's, X> {
     has_started: bool,
     /// Whether it has seen that serving is stopped.
     is_stopping: bool,
+    /// Whether it has seen that the run pauses.
+    is_pausing: bool,
 }
 
 /// Has a connection's slot reported when bytes can be read or written.
@@ -73,16 +79,16 @@ fn note_events(slots: &mut Slots, events: &Events<Global>, now: u64, is_stopping
     }
 }
 
-impl<'a, 's, X: Clock + Wait> SocketDesk<'a, 's, X> {
+impl<'s, X: Clock + Wait> SocketDesk<'s, X> {
     /// No connection is open. One may be silent for so many seconds, if there is a limit.
     pub(crate) fn new(
-        rt: &'a X,
+        rt: &'s X,
         alloc: Global,
         stop: &'s Stop,
         door: Arc<Door, Global>,
         waits: Waits,
         idle_seconds: Option<u32>,
-    ) -> SocketDesk<'a, 's, X> {
+    ) -> SocketDesk<'s, X> {
         SocketDesk {
             rt,
             stop,
@@ -96,6 +102,7 @@ impl<'a, 's, X: Clock + Wait> SocketDesk<'a, 's, X> {
             unwatched: None,
             has_started: false,
             is_stopping: false,
+            is_pausing: false,
         }
     }
 
@@ -109,17 +116,17 @@ impl<'a, 's, X: Clock + Wait> SocketDesk<'a, 's, X> {
         }
     }
 
-    /// Begins to watch a connection that was opened in a slot. Where it can't be watched, its next read meets the end.
+    /// Begins to watch a connection that was opened in a slot, and is to have its first turn: what came before it was watched is reported, and that
+    /// turn's read is a call, whatever its last run's reads have met. Where it can't be watched, its next read meets the end, unless it is to rest.
     fn watch(&mut self, slot: usize, reader: &RequestHalf) {
-        if !self.begin_slot(slot, reader) {
-            self.unwatched = Some(slot);
-            reader.shut_down();
+        if self.begin_slot(slot, reader) && register(&self.waits.poll, reader, slot).is_ok() {
+            self.slots.mark_asked(slot);
             return;
         }
-        if register(&self.waits.poll, reader, slot).is_err() {
+        self.unwatched = Some(slot);
+        if !self.stop.is_pausing() {
             reader.shut_down();
         }
-        self.slots.mark_ready(slot);
     }
 
     /// The turn of a slot, of which the sink is to know whether it cuts the connection off.
@@ -156,14 +163,16 @@ impl<'a, 's, X: Clock + Wait> SocketDesk<'a, 's, X> {
         }
     }
 
-    /// The connection in a slot has ended. Where its client may still be sending, its socket lingers.
+    /// The connection in a slot has ended, or rests. The socket of one that has ended lingers where its client may still be sending; that of one that
+    /// rests stays as it is.
     fn note_end(&mut self, slot: usize) {
         if self.unwatched == Some(slot) {
             self.unwatched = None;
         }
         self.door.count_end();
+        let rests = self.door.take_rest();
         if let Some(socket) = self.slots.end(slot) {
-            if !socket.is_over() {
+            if !rests && !socket.is_over() {
                 self.lingering.add(self.rt, socket);
             }
         }
@@ -183,12 +192,13 @@ impl<'a, 's, X: Clock + Wait> SocketDesk<'a, 's, X> {
         self.door.has_due()
             || (is_idle && self.may_end())
             || (self.stop.is_started() && !self.has_started)
-            || (self.stop.is_raised() && !self.is_stopping)
+            || (self.stop.is_stopping() && !self.is_stopping)
+            || (self.stop.is_pausing() && !self.is_pausing)
     }
 
-    /// Whether all tasks are in the queue, and no socket lingers: once no connection is open, the worker may take its stop mark.
+    /// Whether all tasks are in the queue, and no socket lingers that is waited for: once no connection is open, the worker may take its stop mark.
     fn may_end(&self) -> bool {
-        self.door.is_closing() && self.lingering.is_empty()
+        self.door.is_closing() && (self.is_pausing || self.lingering.is_empty())
     }
 
     /// How long may be waited for what is ready next; for ever, where it is None.
@@ -242,19 +252,31 @@ impl<'a, 's, X: Clock + Wait> SocketDesk<'a, 's, X> {
         }
     }
 
-    /// Where serving was stopped since it was last looked: each connection is to have a turn, and is then given up.
-    fn note_stop(&mut self) {
-        if self.is_stopping || !self.stop.is_raised() {
-            return;
-        }
-        self.is_stopping = true;
+    /// Has each connection have a turn.
+    fn ask_all(&mut self) {
         for slot in 0..self.slots.len() {
             self.slots.mark_asked(slot);
         }
     }
+
+    /// Where serving was stopped since it was last looked: each connection is to have a turn, and is then given up.
+    fn note_stop(&mut self) {
+        if !self.is_stopping && self.stop.is_stopping() {
+            self.is_stopping = true;
+            self.ask_all();
+        }
+    }
+
+    /// Where the run was paused since it was last looked: each connection is to have a turn, in which it is laid down.
+    fn note_pause(&mut self) {
+        if !self.is_pausing && self.stop.is_pausing() {
+            self.is_pausing = true;
+            self.ask_all();
+        }
+    }
 }
 
-impl<'a, 's, X: Clock + Wait> StreamReadiness<RequestHalf, ReplyHalf> for SocketDesk<'a, 's, X> {
+impl<'s, X: Clock + Wait> StreamReadiness<RequestHalf, ReplyHalf> for SocketDesk<'s, X> {
     fn may_take_memory(&self) -> bool {
         self.stop.is_started()
     }
@@ -287,6 +309,7 @@ impl<'a, 's, X: Clock + Wait> StreamReadiness<RequestHalf, ReplyHalf> for Socket
         self.has_started = self.stop.is_started();
         self.note_ready();
         self.note_stop();
+        self.note_pause();
         if !self.lingering.is_empty() {
             self.lingering.pass_over(self.rt);
         }

@@ -22,6 +22,8 @@ pub(crate) struct Door {
     is_waiting: AtomicBool,
     /// Whether the connection that has its turn ends where it would have to wait.
     is_cutting: AtomicBool,
+    /// Whether the connection that had its turn last rests, and its slot doesn't know yet.
+    is_resting: AtomicBool,
     /// No slot, with room for as many as the worker may need next.
     wider: Mutex<Vec<Slot>>,
 }
@@ -36,6 +38,7 @@ impl Door {
             is_closing: AtomicBool::new(false),
             is_waiting: AtomicBool::new(false),
             is_cutting: AtomicBool::new(false),
+            is_resting: AtomicBool::new(false),
             wider: Mutex::new(Vec::new(alloc)),
         }
     }
@@ -72,7 +75,7 @@ impl Door {
         self.is_closing.load(Ordering::SeqCst)
     }
 
-    /// A connection of the worker's has ended, or was refused.
+    /// A connection of the worker's has ended, or rests, or was refused.
     pub(crate) fn count_end(&self) {
         self.load.fetch_sub(1, Ordering::SeqCst);
     }
@@ -85,6 +88,16 @@ impl Door {
     /// Whether the connection that had its turn last was to end where it would have to wait.
     pub(crate) fn is_cutting(&self) -> bool {
         self.is_cutting.load(Ordering::SeqCst)
+    }
+
+    /// The connection that had its turn last rests.
+    pub(crate) fn note_rest(&self) {
+        self.is_resting.store(true, Ordering::SeqCst);
+    }
+
+    /// Whether the connection that had its turn last rests, which is asked once behind that turn.
+    pub(crate) fn take_rest(&self) -> bool {
+        self.is_resting.swap(false, Ordering::SeqCst)
     }
 
     /// Puts room for slots here.

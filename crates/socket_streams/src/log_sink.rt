@@ -8,18 +8,19 @@ use ghost_state::GhostList;
 use job_pool::NumberedEnd;
 use log::{Log, info, warn};
 use node_session::{Ended, SessionFault};
+use session_pool::{Began, EndSink, SessionEnd, Shared};
 use std::alloc::{AllocError, Global};
 use std::marker::Model;
 use std::net::SocketAddr;
 use std::rt::Clock;
-use std::snapshot::Snapshot;
 use std::sync::{Arc, Wait};
-use worker_pool::{EndSink, Job, SessionEnd, Shared};
+use worker_pool::{EndRead, EndWrite};
 
 /// The end of a connection, as a worker's sink is told it.
 type ConnectionEnd = SessionEnd<RequestHalf, ReplyHalf>;
 
-/// Writes a line to the log for each end. It keeps nothing: clauses alone see the ends that it was told, as their list.
+/// Writes a line to the log for each end, and lets the halves of that connection go. Of one that rests it writes nothing: its slot is told at the door
+/// that the socket stays open. It keeps nothing: clauses alone see the ends that it was told, as their list.
 #[derive(Drop)]
 pub struct LogSink<'a, X> {
     rt: &'a X,
@@ -33,7 +34,7 @@ pub struct LogSink<'a, X> {
 impl<'a, X> Model for LogSink<'a, X> {
     ghost use Rattle.std.specs.Prelude.{List};
     ghost use Rattle.job_pool.specs.declared.worker.NumberedEnd.{NumberedEnd};
-    ghost use Rattle.worker_pool.specs.declared.end_sink.SessionEnd.{SessionEnd};
+    ghost use Rattle.session_pool.specs.declared.end_sink.SessionEnd.{SessionEnd};
     ghost use Rattle.socket_streams.specs.declared.halves.RequestHalf.{RequestHalf};
     ghost use Rattle.socket_streams.specs.declared.halves.ReplyHalf.{ReplyHalf};
 
@@ -112,13 +113,7 @@ impl<'a, X: Log + Clock + Wait> EndSink<RequestHalf, ReplyHalf> for LogSink<'a, 
         more <= self.room || self.widen(more.saturating_mul(2)).is_ok() || self.widen(more).is_ok()
     }
 
-    fn tell(
-        &mut self,
-        _shared: &Shared,
-        number: usize,
-        _job: Snapshot<Job<RequestHalf, ReplyHalf>>,
-        end: ConnectionEnd,
-    )
+    fn tell(&mut self, _shared: &Shared, number: usize, _origin: Began, end: ConnectionEnd)
         ensures { self.new ≡ self.old ++ record { number = number; end = end } ∷ [] }
     {
         let told = NumberedEnd { number, end };
@@ -126,17 +121,25 @@ impl<'a, X: Log + Clock + Wait> EndSink<RequestHalf, ReplyHalf> for LogSink<'a, 
         let NumberedEnd { number: _, end } = told;
         let SessionEnd {
             result,
-            reader,
-            writer: _,
+            mut reader,
+            mut writer,
         } = end;
+        reader.ended();
+        writer.ended();
         let is_cut = is_cut(result, self.door.is_cutting());
         log_end(self.rt, reader.peer(), result, is_cut);
     }
 
-    fn refuse(&mut self, _shared: &Shared, _number: usize, job: Job<RequestHalf, ReplyHalf>)
+    fn rest(&mut self, _number: usize)
         ensures { self.new ≡ self.old }
     {
-        log_refused(self.rt, job.reader.peer());
+        self.door.note_rest();
+    }
+
+    fn refuse(&mut self, _number: usize, reader: RequestHalf, _writer: ReplyHalf)
+        ensures { self.new ≡ self.old }
+    {
+        log_refused(self.rt, reader.peer());
         self.door.count_end();
     }
 }

@@ -104,7 +104,7 @@ impl Slots {
         true
     }
 
-    /// The connection in a slot has ended. Its socket.
+    /// The connection in a slot has ended, or rests. Its socket.
     pub(crate) fn end(&mut self, slot: usize) -> Option<Socket> {
         match self.slots.get_mut(slot) {
             Some(one) => one.socket.take(),

@@ -1,8 +1,9 @@
-//! How serving is ended.
+//! How a run is ended, and how it is paused.
 
 use crate::door::Door;
 use crate::pause::PAUSE_MILLIS;
 use mio::Waker;
+use session_pool::Pause;
 use std::alloc::Global;
 use std::io::{ErrorKind, Read};
 use std::rt::Clock;
@@ -11,26 +12,37 @@ use std::sync::{Arc, Wait};
 use std::thread;
 use std::time::Duration;
 
-/// Says when all threads were started, and ends serving once it is raised: the accepting thread accepts no more, and the workers end their
-/// connections.
+/// Says when all threads of a run were started, and ends it from outside, in one of two ways. Once it is raised the accepting thread accepts no more,
+/// and the workers end their connections. Once it pauses the run the accepting thread accepts no more either, and the workers lay their sessions
+/// down, each between two of its steps: for that it is given to the run as its pause too. Where both were said sessions rest. Each is for good, so
+/// each run has a stop of its own.
+///
+/// ```text
+/// let (waits, stop) = new_run_waits(&rt, alloc, 4)?;
+/// serve(&rt, alloc, &shared, &mut sessions, seats, &Open, &stop, &mut seen)   // until another thread says one of these:
+/// stop.raise()                                                                // it returns once each session was ended
+/// stop.pause()                                                                // it returns with the sessions, which rest
+/// ```
 #[derive(Drop)]
 pub struct Stop {
     accepting: Waker,
     doors: Vec<Arc<Door, Global>>,
     is_started: AtomicBool,
-    is_raised: AtomicBool,
+    is_stopping: AtomicBool,
+    is_pausing: AtomicBool,
     /// Whether serving has ended.
     is_over: AtomicBool,
 }
 
 impl Stop {
-    /// No thread was started, and it isn't raised. This waker ends the accepting thread's wait, and these doors those of the workers.
+    /// No thread was started, it isn't raised, and doesn't pause the run. This waker ends the accepting thread's wait, and these doors those of the workers.
     pub(crate) fn new(accepting: Waker, doors: Vec<Arc<Door, Global>>) -> Stop {
         Stop {
             accepting,
             doors,
             is_started: AtomicBool::new(false),
-            is_raised: AtomicBool::new(false),
+            is_stopping: AtomicBool::new(false),
+            is_pausing: AtomicBool::new(false),
             is_over: AtomicBool::new(false),
         }
     }
@@ -54,17 +66,38 @@ impl Stop {
         }
     }
 
+    /// Wakes the accepting thread and the workers.
+    fn wake_all(&self) {
+        // the counter behind a waker takes every wake while it is open, as it is for as long as the waker lives
+        let _taken = self.accepting.wake();
+        self.wake_workers();
+    }
+
     /// Whether it was raised.
-    pub(crate) fn is_raised(&self) -> bool {
-        self.is_raised.load(Ordering::SeqCst)
+    pub fn is_stopping(&self) -> bool {
+        self.is_stopping.load(Ordering::SeqCst)
     }
 
     /// Raises it, for good.
     pub fn raise(&self) {
-        self.is_raised.store(true, Ordering::SeqCst);
-        // the counter behind a waker takes every wake while it is open, as it is for as long as the waker lives
-        let _taken = self.accepting.wake();
-        self.wake_workers();
+        self.is_stopping.store(true, Ordering::SeqCst);
+        self.wake_all();
+    }
+
+    /// Whether it pauses the run.
+    pub fn is_pausing(&self) -> bool {
+        self.is_pausing.load(Ordering::SeqCst)
+    }
+
+    /// Pauses the run, for good: no more connections are accepted, and each session rests once it has its next turn, which it has soon.
+    pub fn pause(&self) {
+        self.is_pausing.store(true, Ordering::SeqCst);
+        self.wake_all();
+    }
+
+    /// Whether no more connections are to be accepted.
+    pub(crate) fn ends_accepting(&self) -> bool {
+        self.is_stopping() || self.is_pausing()
     }
 
     /// Serving has ended, and the input is read no further.
@@ -91,5 +124,13 @@ impl Stop {
             }
         }
         self.raise();
+    }
+}
+
+impl Pause for Stop {
+    ghost can_be_raised = { Unit {0} };
+
+    fn is_raised(&self) -> bool {
+        self.is_pausing()
     }
 }

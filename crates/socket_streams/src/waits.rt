@@ -8,12 +8,13 @@ use crate::log_sink::LogSink;
 use crate::stop::Stop;
 use job_pool::Post;
 use mio::{Events, Poll, Token, Waker};
+use session_pool::Seat;
 use std::alloc::Global;
 use std::io;
 use std::net::Net;
 use std::rt::Clock;
 use std::sync::{Arc, Wait};
-use worker_pool::{Seat, Shown};
+use worker_pool::Shown;
 
 /// The token of a waker; those of connections are their slots, which are below it.
 pub(crate) const WAKER: usize = 18_446_744_073_709_551_615;
@@ -43,10 +44,10 @@ pub struct RunWaits {
 }
 
 /// What a worker over sockets waits with in a run that keeps all ends, and is woken by.
-pub type SocketPost<'a, 's, X> = Post<Shown<SocketDesk<'a, 's, X>>, SocketBell>;
+pub type SocketPost<'s, X> = Post<Shown<SocketDesk<'s, X>>, SocketBell>;
 
 /// What a worker over sockets is started with in a run that keeps none.
-pub type SocketSeat<'a, 's, X> = Seat<LogSink<'a, X>, SocketDesk<'a, 's, X>, SocketBell>;
+pub type SocketSeat<'a, 's, X> = Seat<LogSink<'a, X>, SocketDesk<'s, X>, SocketBell>;
 
 /// What a thread waits with, and how another one wakes it.
 fn new_waits<X: Net>(net: &X, alloc: Global) -> io::Result<(Waits, Waker)> {
@@ -68,7 +69,7 @@ fn new_worker<X: Net>(
     Ok(WorkerWaits { waits, door })
 }
 
-/// What the threads of a run of so many workers wait with, and what stops the run. Refused where memory is, or a descriptor.
+/// What the threads of a run of so many workers wait with, and what stops or pauses the run. Refused where memory is, or a descriptor.
 pub fn new_run_waits<X: Net>(net: &X, alloc: Global, workers: u16) -> io::Result<(RunWaits, Stop)>
     ensures { IfOk result (λ made. length made.0.workers.items ≡ workers) }
 {
@@ -86,13 +87,13 @@ pub fn new_run_waits<X: Net>(net: &X, alloc: Global, workers: u16) -> io::Result
 }
 
 /// What a worker that waits with these has in a run that is stopped so.
-fn new_post<'a, 's, X: Clock + Wait>(
-    rt: &'a X,
+fn new_post<'s, X: Clock + Wait>(
+    rt: &'s X,
     alloc: Global,
     stop: &'s Stop,
     worker: WorkerWaits,
     idle_seconds: Option<u32>,
-) -> io::Result<SocketPost<'a, 's, X>> {
+) -> io::Result<SocketPost<'s, X>> {
     let WorkerWaits { waits, door } = worker;
     let of_bell = Arc::try_clone(&door)?;
     Ok(Post {
@@ -104,7 +105,7 @@ fn new_post<'a, 's, X: Clock + Wait>(
 }
 
 /// The same of a run that keeps no ends, with a sink.
-fn new_seat<'a, 's, X: Clock + Wait>(
+fn new_seat<'a: 's, 's, X: Clock + Wait>(
     rt: &'a X,
     alloc: Global,
     stop: &'s Stop,
@@ -124,12 +125,12 @@ fn new_seat<'a, 's, X: Clock + Wait>(
 
 /// What the workers of a run that keeps all ends wait with, and are woken by. Its connections are waited for until they end. Refused where
 /// memory is.
-pub fn new_posts<'a, 's, X: Clock + Wait>(
-    rt: &'a X,
+pub fn new_posts<'s, X: Clock + Wait>(
+    rt: &'s X,
     alloc: Global,
     stop: &'s Stop,
     workers: Vec<WorkerWaits>,
-) -> io::Result<Vec<SocketPost<'a, 's, X>>>
+) -> io::Result<Vec<SocketPost<'s, X>>>
     ensures { IfOk result (λ posts. length posts.items ≡ length workers.items) }
 {
     let mut posts = Vec::new(alloc);
@@ -139,9 +140,9 @@ pub fn new_posts<'a, 's, X: Clock + Wait>(
     Ok(posts)
 }
 
-/// What the workers of a run that keeps no ends are started with. A connection is closed after so many seconds without a byte, if it is. Refused
-/// where memory is.
-pub fn new_seats<'a, 's, X: Clock + Wait>(
+/// What the workers of a run that keeps no ends are started with. A connection is closed after so many seconds without a byte in this run, if it
+/// is. Refused where memory is.
+pub fn new_seats<'a: 's, 's, X: Clock + Wait>(
     rt: &'a X,
     alloc: Global,
     stop: &'s Stop,

@@ -1,6 +1,6 @@
 use Rattle.std.proofs.Common.{◌≡◌, ◌∙◌, ◌++◌, ◌∷◌, [], ap, length, arith}
 use Rattle.std.proofs.lemmas.List.{length-append}
-use Rattle.worker_pool.specs.declared.seat.Seat.{Seat}
+use Rattle.session_pool.specs.declared.seat.Seat.{Seat}
 use Rattle.socket_streams.proofs.Seats.{every_snoc}
 use Rattle.socket_streams.specs.declared.log_sink.LogSink.{LogSink}
 use Rattle.socket_streams.specs.declared.desk.SocketDesk.{SocketDesk}

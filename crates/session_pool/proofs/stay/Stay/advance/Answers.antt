@@ -1,7 +1,7 @@
 use Rattle.std.proofs.Common.{refl, subst, sym}
 use Rattle.session_pool.specs.Suspending.{StayView, StaysOver}
 use Rattle.session_pool.proofs.Resting.{stays_open, stays_over}
-use Rattle.session_pool.proofs.stay.Stay.step.Goals as goal
+use Rattle.session_pool.proofs.stay.Stay.advance.Goals as goal
 
 pub invariant_of-self : goal.invariant_of-self
 invariant_of-self g c =

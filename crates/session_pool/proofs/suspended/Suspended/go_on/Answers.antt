@@ -6,8 +6,8 @@ use Rattle.session_pool.proofs.Resting.{goes_on}
 use Rattle.session_pool.proofs.Resuming.{later_on, passes_later}
 use Rattle.session_pool.proofs.suspended.Suspended.go_on.Goals as goal
 
-pub new-node-requires : goal.new-node-requires
-new-node-requires g c =
+pub new-requires : goal.new-requires
+new-requires g c =
     let session = c.self.inside in
     let shared = c.args.shared.now in
     let later = subst (λ (s : SuspendedView g.row.R.Denot g.row.W.Denot). IsLater s.over shared) (sym c.self.view_is) c.requires.later.later in

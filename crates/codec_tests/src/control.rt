@@ -1,0 +1,289 @@
+//! Tests of a console's lines: what each asks for, and the lines of the answers.
+
+mod answers;
+
+use control_text::{Command, read_command};
+
+/// A line, and the command that it asks for.
+struct Asked {
+    shows: &'static str,
+    line: &'static [u8],
+    asks: Option<Command>,
+}
+
+const GOOD: &[Asked] = &[
+    Asked {
+        shows: "totals",
+        line: b"totals",
+        asks: Some(Command::Totals),
+    },
+    Asked {
+        shows: "a diversion",
+        line: b"divert 3",
+        asks: Some(Command::Divert(3)),
+    },
+    Asked {
+        shows: "a diversion of the first partition",
+        line: b"divert 0",
+        asks: Some(Command::Divert(0)),
+    },
+    Asked {
+        shows: "a diversion of the greatest index",
+        line: b"divert 65535",
+        asks: Some(Command::Divert(65_535)),
+    },
+    Asked {
+        shows: "a copy",
+        line: b"copy 3 100",
+        asks: Some(Command::Copy {
+            partition: 3,
+            budget: 100,
+        }),
+    },
+    Asked {
+        shows: "a copy of one key",
+        line: b"copy 0 1",
+        asks: Some(Command::Copy {
+            partition: 0,
+            budget: 1,
+        }),
+    },
+    Asked {
+        shows: "a copy of the greatest numbers",
+        line: b"copy 65535 4294967295",
+        asks: Some(Command::Copy {
+            partition: 65_535,
+            budget: 4_294_967_295,
+        }),
+    },
+    Asked {
+        shows: "a return",
+        line: b"return 10",
+        asks: Some(Command::Return(10)),
+    },
+    Asked {
+        shows: "a stop",
+        line: b"stop",
+        asks: Some(Command::Stop),
+    },
+    Asked {
+        shows: "a carriage return behind a word doesn't count",
+        line: b"stop\r",
+        asks: Some(Command::Stop),
+    },
+    Asked {
+        shows: "a carriage return behind a number doesn't count",
+        line: b"copy 3 100\r",
+        asks: Some(Command::Copy {
+            partition: 3,
+            budget: 100,
+        }),
+    },
+];
+
+/// A line that asks for nothing.
+struct Refused {
+    shows: &'static str,
+    line: &'static [u8],
+}
+
+const BAD: &[Refused] = &[
+    Refused {
+        shows: "an empty line",
+        line: b"",
+    },
+    Refused {
+        shows: "a blank",
+        line: b" ",
+    },
+    Refused {
+        shows: "blanks",
+        line: b"   ",
+    },
+    Refused {
+        shows: "a carriage return alone",
+        line: b"\r",
+    },
+    Refused {
+        shows: "two carriage returns",
+        line: b"stop\r\r",
+    },
+    Refused {
+        shows: "a carriage return in front",
+        line: b"\rstop",
+    },
+    Refused {
+        shows: "a line feed",
+        line: b"stop\n",
+    },
+    Refused {
+        shows: "capitals",
+        line: b"Stop",
+    },
+    Refused {
+        shows: "a word's beginning",
+        line: b"sto",
+    },
+    Refused {
+        shows: "a longer word",
+        line: b"stops",
+    },
+    Refused {
+        shows: "a blank behind a word",
+        line: b"stop ",
+    },
+    Refused {
+        shows: "a blank before a word",
+        line: b" stop",
+    },
+    Refused {
+        shows: "a number behind totals",
+        line: b"totals 1",
+    },
+    Refused {
+        shows: "another word",
+        line: b"dump",
+    },
+    Refused {
+        shows: "a NUL behind a word",
+        line: b"stop\0",
+    },
+    Refused {
+        shows: "a NUL alone",
+        line: b"\0",
+    },
+    Refused {
+        shows: "bytes that are no text",
+        line: b"divert \xff\xfe",
+    },
+    Refused {
+        shows: "a diversion of nothing",
+        line: b"divert",
+    },
+    Refused {
+        shows: "a diversion of no number",
+        line: b"divert ",
+    },
+    Refused {
+        shows: "a diversion of a negative number",
+        line: b"divert -1",
+    },
+    Refused {
+        shows: "a sign",
+        line: b"divert +1",
+    },
+    Refused {
+        shows: "a leading zero",
+        line: b"divert 03",
+    },
+    Refused {
+        shows: "a number in hexadecimal",
+        line: b"divert 0x3",
+    },
+    Refused {
+        shows: "a fraction",
+        line: b"divert 3.0",
+    },
+    Refused {
+        shows: "an index above the greatest",
+        line: b"divert 65536",
+    },
+    Refused {
+        shows: "an index that is 3 in 16 bits",
+        line: b"divert 65539",
+    },
+    Refused {
+        shows: "an index that is 3 in 32 bits",
+        line: b"divert 4294967299",
+    },
+    Refused {
+        shows: "a line of digits",
+        line: b"divert 340282366920938463463374607431768211456340282366920938463463374607431768211456",
+    },
+    Refused {
+        shows: "two spaces",
+        line: b"divert  3",
+    },
+    Refused {
+        shows: "a tab",
+        line: b"divert\t3",
+    },
+    Refused {
+        shows: "two partitions",
+        line: b"divert 3 4",
+    },
+    Refused {
+        shows: "a blank behind a number",
+        line: b"divert 3 ",
+    },
+    Refused {
+        shows: "a copy of nothing",
+        line: b"copy",
+    },
+    Refused {
+        shows: "a copy without a budget",
+        line: b"copy 3",
+    },
+    Refused {
+        shows: "a copy of an empty budget",
+        line: b"copy 3 ",
+    },
+    Refused {
+        shows: "a budget of 0",
+        line: b"copy 3 0",
+    },
+    Refused {
+        shows: "a budget above the greatest",
+        line: b"copy 3 4294967296",
+    },
+    Refused {
+        shows: "a budget with a leading zero",
+        line: b"copy 3 0100",
+    },
+    Refused {
+        shows: "a copy of a greater index",
+        line: b"copy 65536 1",
+    },
+    Refused {
+        shows: "a copy without a partition",
+        line: b"copy  100",
+    },
+    Refused {
+        shows: "two spaces before a budget",
+        line: b"copy 3  100",
+    },
+    Refused {
+        shows: "two budgets",
+        line: b"copy 3 100 100",
+    },
+    Refused {
+        shows: "a tab before a budget",
+        line: b"copy 3\t100",
+    },
+    Refused {
+        shows: "a return of nothing",
+        line: b"return",
+    },
+    Refused {
+        shows: "a return of a greater index",
+        line: b"return 65536",
+    },
+    Refused {
+        shows: "a return of a word",
+        line: b"return all",
+    },
+];
+
+#[test]
+fn reads_a_line_as_its_command(rt: HostRuntime) {
+    for row in GOOD {
+        assert!(rt; read_command(row.line) == row.asks, "{}", row.shows);
+    }
+}
+
+#[test]
+fn refuses_other_lines(rt: HostRuntime) {
+    for row in BAD {
+        assert!(rt; read_command(row.line) == None, "{}", row.shows);
+    }
+}

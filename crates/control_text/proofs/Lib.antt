@@ -1,0 +1,4 @@
+mod OneLine
+mod Numbers
+mod Texts
+mod OneCommand

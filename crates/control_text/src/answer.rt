@@ -1,0 +1,60 @@
+//! What is answered to a command.
+
+ghost use Rattle.std.specs.Prelude.{◌≡◌, OnOk};
+ghost use Rattle.std.specs.Io.KnownBytes.{Appends};
+ghost use Rattle.control_text.specs.Answers.{answer_line, answer_text, rest_word};
+
+use crate::refusal::Refusal;
+use std::io;
+use std::io::Write;
+
+/// What is answered to a command that names a partition, or to a line that asks for none. The answer to `totals` is the line of the totals,
+/// and to `stop` nothing is answered.
+#[derive(Clone, Copy, Drop, PartialEq, Eq)]
+pub enum Answer {
+    /// The partition of this index is diverted from now on: `diverted 3`.
+    Diverted(u16),
+    /// Keys were copied back: `copied 3 keys 100 left`, and `copied 3 keys 12 whole` where none are left.
+    Copied {
+        /// The partition's index.
+        partition: u16,
+        /// How many keys this command copied.
+        keys: u64,
+        /// Whether keys are left to be copied.
+        left: bool,
+    },
+    /// The partition of this index is at its primary again: `returned 3`.
+    Returned(u16),
+    /// The command wasn't done: `refused: ` and why.
+    Refused(Refusal),
+}
+
+/// The word for whether keys are left to be copied.
+fn rest_word(left: bool) -> &'static str
+    ensures { result.now ≡ rest_word left }
+{
+    if left { "left" } else { "whole" }
+}
+
+impl Answer {
+    /// Writes the answer's line, its line feed (byte 0a) among it. On an error of the writer a part of it may have been written. It takes no
+    /// memory of its own.
+    pub fn write_line<W: Write>(self, writer: &mut W) -> io::Result<()>
+        ensures line { OnOk result
+            (Appends (W.contents writer.old) (W.contents writer.new) (answer_line self)) }
+    {
+        match self {
+            Answer::Diverted(partition) => writeln!(writer, "diverted {partition}"),
+            Answer::Copied {
+                partition,
+                keys,
+                left,
+            } => {
+                let rest = rest_word(left);
+                writeln!(writer, "copied {partition} keys {keys} {rest}")
+            }
+            Answer::Returned(partition) => writeln!(writer, "returned {partition}"),
+            Answer::Refused(refusal) => refusal.write_line(writer),
+        }
+    }
+}

@@ -1,0 +1,58 @@
+//! Why a command wasn't done.
+
+ghost use Rattle.std.specs.Prelude.{◌++◌, OnOk, codes, decimal};
+ghost use Rattle.std.specs.Io.KnownBytes.{Appends};
+ghost use Rattle.control_text.specs.Answers.{refusal_line};
+
+use std::io;
+use std::io::Write;
+
+/// Why a command wasn't done. A number is the index of the partition that the command named.
+#[derive(Clone, Copy, Drop, PartialEq, Eq)]
+pub enum Refusal {
+    /// The line asks for no command: `refused: no such command`.
+    BadCommand,
+    /// The node has no partition of this index: `refused: there is no partition 9`.
+    NoPartition(u16),
+    /// A diversion of a partition that is diverted: `refused: partition 3 is diverted already`.
+    AlreadyDiverted(u16),
+    /// A copy or a return of a partition that isn't diverted: `refused: partition 3 isn't diverted`.
+    NotDiverted(u16),
+    /// A return before all keys were copied: `refused: partition 3 has keys left to be copied`.
+    LeftOver(u16),
+    /// Memory was refused: `refused: no memory`.
+    NoMemory,
+    /// A gate of the partition takes no more steps: `refused: partition 3's gate has stopped`.
+    GateStopped(u16),
+}
+
+/// Writes the line of a refusal that begins with its partition.
+fn write_about<W: Write>(writer: &mut W, partition: u16, what: &str) -> io::Result<()>
+    ensures { OnOk result (Appends (W.contents writer.old) (W.contents writer.new)
+        (codes "refused: partition " ++ decimal partition ++ what.now ++ codes "\n")) }
+{
+    writeln!(writer, "refused: partition {partition}{what}")
+}
+
+impl Refusal {
+    /// Writes the refusal's line, its line feed (byte 0a) among it. On an error of the writer a part of it may have been written. It takes no
+    /// memory of its own.
+    pub fn write_line<W: Write>(self, writer: &mut W) -> io::Result<()>
+        ensures line { OnOk result
+            (Appends (W.contents writer.old) (W.contents writer.new) (refusal_line self)) }
+    {
+        match self {
+            Refusal::BadCommand => writeln!(writer, "refused: no such command"),
+            Refusal::NoPartition(index) => {
+                writeln!(writer, "refused: there is no partition {index}")
+            }
+            Refusal::AlreadyDiverted(index) => write_about(writer, index, " is diverted already"),
+            Refusal::NotDiverted(index) => write_about(writer, index, " isn't diverted"),
+            Refusal::LeftOver(index) => {
+                write_about(writer, index, " has keys left to be copied")
+            }
+            Refusal::NoMemory => writeln!(writer, "refused: no memory"),
+            Refusal::GateStopped(index) => write_about(writer, index, "'s gate has stopped"),
+        }
+    }
+}
