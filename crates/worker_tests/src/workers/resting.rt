@@ -1,6 +1,7 @@
 //! Runs that are paused between two steps of their sessions, and go on in later runs.
 ghost use Rattle.std.specs.Prelude.{◌≡◌, ◌+◌, ◌≤◌, length, map, vec_len, vec_capacity, IfSome};
 ghost use Rattle.job_pool.specs.Lists.{Every, concat};
+ghost use Rattle.gate_node.specs.Gates.{Gates};
 ghost use Rattle.gate_node.specs.Passes.{ArePassesOf};
 ghost use Rattle.session_pool.specs.Suspending.{CanGoOn};
 ghost use Rattle.session_pool.specs.Tellers.{IsNewSeat};
@@ -103,15 +104,17 @@ fn order_of(
 
 /// The sessions that rest of all workers.
 fn rest_of(alloc: Global, served: TestServed) -> Option<Vec<TestSession>>
-    ensures { IfSome result (λ rest. rest.items
-        ≡ concat (map (λ one. one.items) served.resting.items)) }
+    ensures { (gates : Gates)
+        → Every (CanGoOn gates) (concat (map (λ one. one.items) served.resting.items))
+        → IfSome result (λ rest. Every (CanGoOn gates) rest.items) }
 {
     let Served { resting, .. } = served;
     let mut all = Vec::new(alloc);
     for worker in resting {
         let mut rest = worker;
-        if all.append(&mut rest).is_err() {
-            return None;
+        match all.append(&mut rest) {
+            Ok(()) => {}
+            Err(_) => return None,
         }
     }
     Some(all)
@@ -130,13 +133,13 @@ fn both(first: Totals, second: Totals) -> Totals {
 
 /// What a run left, and what stood before it.
 #[derive(Drop)]
-pub struct Ran {
-    pub served: TestServed,
+struct Ran {
+    served: TestServed,
     seen: Passes,
     order: Vec<usize>,
     runs: u32,
     begun: usize,
-    pub totals: Totals,
+    totals: Totals,
     refused: u64,
 }
 
@@ -184,12 +187,12 @@ fn lines_of(lines: &[Line], begun: usize, end: usize) -> &[Line] {
 }
 
 /// What the next run over these gates leaves, of what rests and of new sessions over these lines. None where it fails.
-pub fn run<X: Threads + Wait + Sync, Q: Pause + Sync>(
+fn run<'x, X: Threads + Wait + Sync, Q: Pause + Sync>(
     rt: &X,
     alloc: Global,
-    shared: &Shared,
+    shared: &'x Shared,
     manner: Manner,
-    lines: &[Line],
+    lines: &'x [Line],
     stage: Stage,
     pause: &Q,
 ) -> Option<Ran>
@@ -223,8 +226,14 @@ pub fn run<X: Threads + Wait + Sync, Q: Pause + Sync>(
         counts: &counts,
         most: manner.most,
     };
-    let new = lines_of(lines, first, begun);
-    let sessions = Sessions::new(shared, wires, resting, new, first, false);
+    let sessions = Sessions {
+        shared,
+        wires,
+        resting,
+        lines: lines_of(lines, first, begun),
+        number: first,
+        fails: false,
+    };
     match play(rt, shared, sessions, seats, pause, &mut seen) {
         Ok(served) => Some(Ran {
             served,
@@ -239,13 +248,20 @@ pub fn run<X: Threads + Wait + Sync, Q: Pause + Sync>(
     }
 }
 
+/// Whether what a run left is counted right, and its ends are those of these lines.
+fn is_well(ran: &Ran, lines: &[Line]) -> bool {
+    is_counted(&ran.served, ran.order.as_slice(), lines)
+}
+
 /// The stage behind a run. None where that isn't counted right, or the ends aren't those of these lines.
-pub fn stage_behind(alloc: Global, lines: &[Line], ran: Ran) -> Option<Stage>
-    ensures rest { IfSome result (λ stage. stage.resting.items
-        ≡ concat (map (λ one. one.items) ran.served.resting.items)) }
-    ensures seen { IfSome result (λ stage. stage.seen ≡ ran.seen) }
+fn stage_behind(alloc: Global, lines: &[Line], ran: Ran) -> Option<Stage>
+    ensures rest { (gates : Gates)
+        → Every (CanGoOn gates) (concat (map (λ one. one.items) ran.served.resting.items))
+        → IfSome result (λ stage. Every (CanGoOn gates) stage.resting.items) }
+    ensures seen { (gates : Gates) → ArePassesOf gates ran.seen
+        → IfSome result (λ stage. ArePassesOf gates stage.seen) }
 {
-    if !is_counted(&ran.served, ran.order.as_slice(), lines) {
+    if !is_well(&ran, lines) {
         return None;
     }
     let Ran {

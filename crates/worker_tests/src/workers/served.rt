@@ -143,7 +143,14 @@ fn serve_over<X: Threads + Wait + Sync>(
         counts: &counts,
         most: usize::MAX,
     };
-    let sessions = Sessions::new(shared, wires, Vec::new(alloc), run.lines, 0, run.fails);
+    let sessions = Sessions {
+        shared,
+        wires,
+        resting: Vec::new(alloc),
+        lines: run.lines,
+        number: 0,
+        fails: run.fails,
+    };
     let is_so = match play(rt, shared, sessions, seats, &NoPause, &mut seen) {
         Ok(served) => {
             is_served(&served, run, has_room)

@@ -1,6 +1,7 @@
 //! A source of sessions, those that rest first, and runs of it.
-ghost use Rattle.std.specs.Prelude.{◌≡◌, ◌+◌, ◌≤◌, length, map, vec_len, vec_capacity, IfOk};
+ghost use Rattle.std.specs.Prelude.{◌≡◌, ◌+◌, ◌≤◌, length, map, vec_len, vec_capacity, IfOk, IfSome};
 ghost use Rattle.job_pool.specs.Lists.{Every, concat};
+ghost use Rattle.gate_node.specs.Gates.{Gates};
 ghost use Rattle.gate_node.specs.Passes.{ArePassesOf};
 ghost use Rattle.session_pool.specs.Suspending.{CanGoOn};
 ghost use Rattle.session_pool.specs.Tellers.{IsNewSeat};
@@ -12,7 +13,6 @@ use crate::workers::streams::{Input, Output};
 use session_pool::{
     JobFault, Jobs, Open, Passes, Pause, PoolFault, Served, Shared, Suspended, serve,
 };
-use std::marker::Model;
 use std::sync::Wait;
 use std::sync::atomic::{AtomicU64, Ordering};
 use std::thread::Threads;
@@ -41,49 +41,13 @@ impl Pause for AfterLooks {
 /// Gives the sessions that rest, the last one first, and a new one for each line, by new passes; then none, or a fault.
 #[derive(Drop)]
 pub struct Sessions<'a> {
-    shared: &'a Shared,
-    wires: Wires<'a>,
-    resting: Vec<TestSession>,
-    lines: &'a [Line],
+    pub shared: &'a Shared,
+    pub wires: Wires<'a>,
+    pub resting: Vec<TestSession>,
+    pub lines: &'a [Line],
     /// The number of the first of these lines.
-    number: usize,
-    fails: bool,
-}
-
-impl<'a> Model for Sessions<'a> {
-    ghost use Rattle.job_pool.specs.Lists.{Every};
-    ghost use Rattle.gate_node.specs.Gates.{Gates};
-    ghost use Rattle.session_pool.specs.Suspending.{CanGoOn};
-
-    ghost Value = { Gates };
-
-    ghost view = { λ s. s.shared.now };
-
-    ghost invariant = { λ s. Every (CanGoOn s.shared.now) s.resting.items };
-}
-
-impl<'a> Sessions<'a> {
-    /// Gives these that rest, and new ones for these lines, of which the first has this number.
-    pub fn new(
-        shared: &'a Shared,
-        wires: Wires<'a>,
-        resting: Vec<TestSession>,
-        lines: &'a [Line],
-        number: usize,
-        fails: bool,
-    ) -> Sessions<'a>
-        requires { Every (CanGoOn shared.now) resting.items }
-        ensures { result ≡ shared.now }
-    {
-        Sessions {
-            shared,
-            wires,
-            resting,
-            lines,
-            number,
-            fails,
-        }
-    }
+    pub number: usize,
+    pub fails: bool,
 }
 
 /// A session over the line of this number that is to begin, by new passes. None where memory is refused.
@@ -104,18 +68,35 @@ fn new_session(
     }
 }
 
+/// The last one of those that rest, if one does.
+fn next_resting(resting: &mut Vec<TestSession>) -> Option<TestSession>
+    ensures rest { (gates : Gates) → Every (CanGoOn gates) resting.old.items
+        → Every (CanGoOn gates) resting.new.items }
+    ensures one { IfSome result (λ session. (gates : Gates)
+        → Every (CanGoOn gates) resting.old.items → CanGoOn gates session) }
+{
+    match resting.pop() {
+        Some(session) => Some(session),
+        None => None,
+    }
+}
+
 impl<'a> Jobs for Sessions<'a> {
     type Job = TestSession;
 
     ghost use Rattle.std.specs.Prelude.{◌≡◌, ⊤, MatchResult, MatchOption};
+    ghost use Rattle.job_pool.specs.Lists.{Every};
     ghost use Rattle.session_pool.specs.Suspending.{CanGoOn};
 
-    ghost gives = { λ first given last. (last ≡ first) × MatchResult given
-        (λ next. MatchOption next ⊤ (CanGoOn first))
-        (λ fault. ⊤) };
+    ghost gives = { λ first given last. (last.shared ≡ first.shared)
+        × (Every (CanGoOn first.shared.now) first.resting.items
+        → Every (CanGoOn first.shared.now) last.resting.items
+        × MatchResult given
+        (λ next. MatchOption next ⊤ (CanGoOn first.shared.now))
+        (λ fault. ⊤)) };
 
     fn next(&mut self) -> Result<Option<TestSession>, JobFault> {
-        if let Some(session) = self.resting.pop() {
+        if let Some(session) = next_resting(&mut self.resting) {
             return Ok(Some(session));
         }
         let Some((line, rest)) = self.lines.split_first() else {
@@ -141,7 +122,8 @@ pub fn play<X: Threads + Wait + Sync, Q: Pause + Sync>(
     pause: &Q,
     seen: &mut Passes,
 ) -> Result<TestServed, PoolFault>
-    requires of_gates { sessions ≡ shared.now }
+    requires of_gates { sessions.shared.now ≡ shared.now }
+    requires rest { Every (CanGoOn shared.now) sessions.resting.items }
     requires seen { ArePassesOf shared.now seen.old }
     requires count { (1 ≤ length seats.items) × (length seats.items ≤ 2) }
     requires new { Every (IsNewSeat (λ sink. sink.ends.items)

@@ -260,9 +260,10 @@ fn goes_on_by<X: Threads + Wait + Sync>(
     let Some(looks) = second else {
         return goes_on(rt, alloc, shared, row, stage);
     };
-    match pause_once(rt, alloc, shared, row, stage, looks) {
-        (Some(stage), _) => goes_on(rt, alloc, shared, row, stage),
-        (None, _) => false,
+    let (next, _) = pause_once(rt, alloc, shared, row, stage, looks);
+    match next {
+        Some(stage) => goes_on(rt, alloc, shared, row, stage),
+        None => false,
     }
 }
 
@@ -280,11 +281,12 @@ fn is_paused<X: Threads + Wait + Sync>(
     let Some(stage) = new_stage(alloc, &shared) else {
         return false;
     };
-    match pause_once(rt, alloc, &shared, row, stage, first) {
-        (Some(stage), was_raised) => {
+    let (next, was_raised) = pause_once(rt, alloc, &shared, row, stage, first);
+    match next {
+        Some(stage) => {
             was_raised == (first < row.looks) && goes_on_by(rt, alloc, &shared, row, stage, second)
         }
-        (None, _) => false,
+        None => false,
     }
 }
 

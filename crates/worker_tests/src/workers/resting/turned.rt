@@ -177,7 +177,10 @@ fn divert_under(alloc: Global, shared: Shared, stage: &Stage) -> Option<Shared>
     ensures rest { IfSome result (λ later. Every (CanGoOn later) stage.now.resting.items) }
     ensures seen { IfSome result (λ later. ArePassesOf later stage.now.seen) }
 {
-    divert(alloc, shared, 0, 0)
+    match divert(alloc, shared, 0, 0) {
+        Some(later) => Some(later),
+        None => None,
+    }
 }
 
 /// The stage behind a run that is paused after so many looks. None where not so many requests are answered then.
@@ -196,10 +199,13 @@ fn pause_once<X: Threads + Wait + Sync>(
     ensures seen { IfSome result (λ next. ArePassesOf shared.now next.seen) }
 {
     let pause = after_looks(looks);
-    match run_once(rt, alloc, shared, PLAIN, lines, stage, &pause) {
-        Some(next) if has_answered(&next, answered) => Some(next),
-        _ => None,
+    let Some(next) = run_once(rt, alloc, shared, PLAIN, lines, stage, &pause) else {
+        return None;
+    };
+    if !has_answered(&next, answered) {
+        return None;
     }
+    Some(next)
 }
 
 /// Whether so many requests were answered.
