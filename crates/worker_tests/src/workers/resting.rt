@@ -13,7 +13,7 @@ mod turned;
 
 use crate::exchanges::NOTHING_COUNTED;
 use crate::workers::resting::counted::is_counted;
-use crate::workers::script::{Line, Wires};
+use crate::workers::script::Line;
 use crate::workers::seats::{TestSeat, new_seats};
 use crate::workers::sessions::{AfterLooks, Sessions, TestServed, TestSession, play};
 use crate::workers::streams::Counts;
@@ -45,17 +45,23 @@ pub const PLAIN: Manner = Manner {
     rooms: (u32::MAX, u32::MAX),
 };
 
+/// What was counted in all runs so far.
+#[derive(Clone, Copy)]
+pub struct Sums {
+    pub runs: u32,
+    /// How many lines have begun.
+    pub begun: usize,
+    pub totals: Totals,
+    pub refused: u64,
+}
+
 /// What stands between two runs.
 #[derive(Drop)]
 pub struct Stage {
     pub resting: Vec<TestSession>,
     /// They have seen what the sessions had seen that are over.
     pub seen: Passes,
-    /// How many runs there were, and how many lines they began.
-    pub runs: u32,
-    pub begun: usize,
-    pub totals: Totals,
-    pub refused: u64,
+    pub sums: Sums,
 }
 
 /// No run was made yet over these gates.
@@ -63,14 +69,17 @@ pub fn new_stage(alloc: Global, shared: &Shared) -> Option<Stage>
     ensures { IfSome result (λ stage. Every (CanGoOn shared.now) stage.resting.items
         × ArePassesOf shared.now stage.seen) }
 {
+    let sums = Sums {
+        runs: 0,
+        begun: 0,
+        totals: NOTHING_COUNTED,
+        refused: 0,
+    };
     match Passes::new(alloc, shared) {
         Ok(seen) => Some(Stage {
             resting: Vec::new(alloc),
             seen,
-            runs: 0,
-            begun: 0,
-            totals: NOTHING_COUNTED,
-            refused: 0,
+            sums,
         }),
         Err(_) => None,
     }
@@ -131,51 +140,24 @@ fn both(first: Totals, second: Totals) -> Totals {
     }
 }
 
-/// What a run left, and what stood before it.
+/// In which order a run is given the sessions of which lines, and how many lines have begun behind it.
 #[derive(Drop)]
-struct Ran {
-    served: TestServed,
-    seen: Passes,
-    order: Vec<usize>,
-    runs: u32,
-    begun: usize,
-    totals: Totals,
-    refused: u64,
-}
-
-/// What a run is made with.
-#[derive(Drop)]
-struct Made {
-    seats: Vec<TestSeat>,
+struct Plan {
     order: Vec<usize>,
     begun: usize,
 }
 
-/// What the next run behind this stage is made with. None where memory is refused.
-fn make_run(
-    alloc: Global,
-    manner: Manner,
-    lines: &[Line],
-    stage: &Stage,
-    counts: &Arc<Counts, Global>,
-) -> Option<Made>
-    ensures count { IfSome result (λ made.
-        (1 ≤ length made.seats.items) × (length made.seats.items ≤ 2)) }
-    ensures new { IfSome result (λ made. Every (IsNewSeat (λ sink. sink.ends.items)
-        (λ sink n. vec_len sink.ends + n ≤ vec_capacity sink.ends)) made.seats.items) }
-{
-    let begun = next_begun(stage.begun, lines, manner.begins);
+/// The plan of the next run behind this stage. None where memory is refused.
+fn plan_of(alloc: Global, manner: Manner, lines: &[Line], stage: &Stage) -> Option<Plan> {
+    let begun = next_begun(stage.sums.begun, lines, manner.begins);
+    let order = order_of(alloc, stage.resting.as_slice(), stage.sums.begun, begun)?;
+    Some(Plan { order, begun })
+}
+
+/// For how many sessions each worker has memory in the next run behind this stage.
+fn rooms_of(manner: Manner, stage: &Stage) -> u32 {
     let (first, later) = manner.rooms;
-    let rooms = if stage.runs == 0 { first } else { later };
-    let order = order_of(alloc, stage.resting.as_slice(), stage.begun, begun)?;
-    match new_seats(alloc, manner.are_two, rooms, counts) {
-        Ok(seats) => Some(Made {
-            seats,
-            order,
-            begun,
-        }),
-        Err(_) => None,
-    }
+    if stage.sums.runs == 0 { first } else { later }
 }
 
 /// The lines that begin in a run.
@@ -186,115 +168,73 @@ fn lines_of(lines: &[Line], begun: usize, end: usize) -> &[Line] {
     }
 }
 
-/// What the next run over these gates leaves, of what rests and of new sessions over these lines. None where it fails.
-fn run<'x, X: Threads + Wait + Sync, Q: Pause + Sync>(
-    rt: &X,
-    alloc: Global,
-    shared: &'x Shared,
-    manner: Manner,
-    lines: &'x [Line],
-    stage: Stage,
-    pause: &Q,
-) -> Option<Ran>
-    requires rest { Every (CanGoOn shared.now) stage.resting.items }
-    requires seen { ArePassesOf shared.now stage.seen }
-    ensures rest { IfSome result (λ ran. Every (CanGoOn shared.now)
-        (concat (map (λ one. one.items) ran.served.resting.items))) }
-    ensures seen { IfSome result (λ ran. ArePassesOf shared.now ran.seen) }
-{
-    let Ok(counts) = Arc::new(alloc, Counts::new()) else {
-        return None;
-    };
-    let Some(made) = make_run(alloc, manner, lines, &stage, &counts) else {
-        return None;
-    };
-    let Made {
-        seats,
-        order,
+/// What was counted, with what this run counted behind which so many lines have begun.
+fn count_run(before: Sums, begun: usize, served: &TestServed) -> Sums {
+    Sums {
+        runs: before.runs.saturating_add(1),
         begun,
-    } = made;
-    let Stage {
-        resting,
-        mut seen,
-        runs,
-        begun: first,
-        totals,
-        refused,
-    } = stage;
-    let wires = Wires {
-        alloc,
-        counts: &counts,
-        most: manner.most,
-    };
-    let sessions = Sessions {
-        shared,
-        wires,
-        resting,
-        lines: lines_of(lines, first, begun),
-        number: first,
-        fails: false,
-    };
-    match play(rt, shared, sessions, seats, pause, &mut seen) {
-        Ok(served) => Some(Ran {
-            served,
-            seen,
-            order,
-            runs,
-            begun,
-            totals,
-            refused,
-        }),
-        Err(_) => None,
+        totals: both(before.totals, served.totals),
+        refused: before.refused.saturating_add(served.refused),
     }
 }
 
-/// Whether what a run left is counted right, and its ends are those of these lines.
-fn is_well(ran: &Ran, lines: &[Line]) -> bool {
-    is_counted(&ran.served, ran.order.as_slice(), lines)
-}
-
-/// The stage behind a run. None where that isn't counted right, or the ends aren't those of these lines.
-fn stage_behind(alloc: Global, lines: &[Line], ran: Ran) -> Option<Stage>
+/// The stage behind a run that left this, whose passes have seen what they have. None where memory is refused.
+fn stage_behind(alloc: Global, served: TestServed, seen: Passes, sums: Sums) -> Option<Stage>
     ensures rest { (gates : Gates)
-        → Every (CanGoOn gates) (concat (map (λ one. one.items) ran.served.resting.items))
+        → Every (CanGoOn gates) (concat (map (λ one. one.items) served.resting.items))
         → IfSome result (λ stage. Every (CanGoOn gates) stage.resting.items) }
-    ensures seen { (gates : Gates) → ArePassesOf gates ran.seen
-        → IfSome result (λ stage. ArePassesOf gates stage.seen) }
+    ensures seen { IfSome result (λ stage. stage.seen ≡ seen) }
 {
-    if !is_well(&ran, lines) {
-        return None;
-    }
-    let Ran {
-        served,
-        seen,
-        order: _,
-        runs,
-        begun,
-        totals,
-        refused,
-    } = ran;
-    let totals = both(totals, served.totals);
-    let refused = refused.saturating_add(served.refused);
     match rest_of(alloc, served) {
         Some(resting) => Some(Stage {
             resting,
             seen,
-            runs: runs.saturating_add(1),
-            begun,
-            totals,
-            refused,
+            sums,
         }),
         None => None,
     }
 }
 
-/// The stage behind the next run, and that it is counted right, and its ends are those of these lines.
-pub fn run_once<X: Threads + Wait + Sync, Q: Pause + Sync>(
+/// The stage behind a run of these sessions. None where it isn't counted right, or its ends aren't those of these lines.
+fn run_of<X: Threads + Wait + Sync, Q: Pause + Sync>(
+    rt: &X,
+    shared: &Shared,
+    sessions: Sessions<'_>,
+    lines: &[Line],
+    seats: Vec<TestSeat>,
+    plan: Plan,
+    pause: &Q,
+    mut seen: Passes,
+    before: Sums,
+) -> Option<Stage>
+    requires of_gates { sessions.shared.now ≡ shared.now }
+    requires rest { Every (CanGoOn shared.now) sessions.resting.items }
+    requires seen { ArePassesOf shared.now seen }
+    requires count { (1 ≤ length seats.items) × (length seats.items ≤ 2) }
+    requires new { Every (IsNewSeat (λ sink. sink.ends.items)
+        (λ sink n. vec_len sink.ends + n ≤ vec_capacity sink.ends)) seats.items }
+    ensures rest { IfSome result (λ next. Every (CanGoOn shared.now) next.resting.items) }
+    ensures seen { IfSome result (λ next. ArePassesOf shared.now next.seen) }
+{
+    let alloc = sessions.alloc;
+    let Ok(served) = play(rt, shared, sessions, seats, pause, &mut seen) else {
+        return None;
+    };
+    if !is_counted(&served, plan.order.as_slice(), lines) {
+        return None;
+    }
+    let sums = count_run(before, plan.begun, &served);
+    stage_behind(alloc, served, seen, sums)
+}
+
+/// The stage behind the next run over these gates, of what rests and of new sessions over these lines. None where it fails, or isn't counted right, or
+/// its ends aren't those of these lines.
+pub fn run_once<'x, X: Threads + Wait + Sync, Q: Pause + Sync>(
     rt: &X,
     alloc: Global,
-    shared: &Shared,
+    shared: &'x Shared,
     manner: Manner,
-    lines: &[Line],
+    lines: &'x [Line],
     stage: Stage,
     pause: &Q,
 ) -> Option<Stage>
@@ -303,10 +243,32 @@ pub fn run_once<X: Threads + Wait + Sync, Q: Pause + Sync>(
     ensures rest { IfSome result (λ next. Every (CanGoOn shared.now) next.resting.items) }
     ensures seen { IfSome result (λ next. ArePassesOf shared.now next.seen) }
 {
-    match run(rt, alloc, shared, manner, lines, stage, pause) {
-        Some(ran) => stage_behind(alloc, lines, ran),
-        None => None,
-    }
+    let Ok(counts) = Arc::new(alloc, Counts::new()) else {
+        return None;
+    };
+    let Some(plan) = plan_of(alloc, manner, lines, &stage) else {
+        return None;
+    };
+    let rooms = rooms_of(manner, &stage);
+    let Ok(seats) = new_seats(alloc, manner.are_two, rooms, &counts) else {
+        return None;
+    };
+    let Stage {
+        resting,
+        seen,
+        sums,
+    } = stage;
+    let sessions = Sessions {
+        alloc,
+        shared,
+        counts: &counts,
+        most: manner.most,
+        resting,
+        lines: lines_of(lines, sums.begun, plan.begun),
+        number: sums.begun,
+        fails: false,
+    };
+    run_of(rt, shared, sessions, lines, seats, plan, pause, seen, sums)
 }
 
 /// Is to be raised after so many looks.

@@ -4,7 +4,7 @@ ghost use Rattle.gate_node.specs.Passes.{ArePassesOf};
 use crate::exchanges::{NOTHING_ACCEPTED, NOTHING_COUNTED, new_shared};
 use crate::workers::kept_ends::KeptEnds;
 use crate::workers::runs::{RUNS, Run, THREE_JOBS, are_streams, are_tallies, is_accepted};
-use crate::workers::script::{Line, Wires};
+use crate::workers::script::Line;
 use crate::workers::seats::new_seats;
 use crate::workers::sessions::{Sessions, TestServed, play};
 use crate::workers::streams::{Counts, Input, Output};
@@ -138,14 +138,11 @@ fn serve_over<X: Threads + Wait + Sync>(
     let Ok(mut seen) = Passes::new(alloc, shared) else {
         return false;
     };
-    let wires = Wires {
+    let sessions = Sessions {
         alloc,
+        shared,
         counts: &counts,
         most: usize::MAX,
-    };
-    let sessions = Sessions {
-        shared,
-        wires,
         resting: Vec::new(alloc),
         lines: run.lines,
         number: 0,

@@ -9,12 +9,13 @@ ghost use Rattle.session_pool.specs.Tellers.{IsNewSeat};
 use crate::workers::kept_ends::KeptEnds;
 use crate::workers::script::{Line, Wires, streams_of};
 use crate::workers::seats::TestSeat;
-use crate::workers::streams::{Input, Output};
+use crate::workers::streams::{Counts, Input, Output};
 use session_pool::{
     JobFault, Jobs, Open, Passes, Pause, PoolFault, Served, Shared, Suspended, serve,
 };
-use std::sync::Wait;
+use std::alloc::Global;
 use std::sync::atomic::{AtomicU64, Ordering};
+use std::sync::{Arc, Wait};
 use std::thread::Threads;
 
 /// A session of a test.
@@ -41,8 +42,11 @@ impl Pause for AfterLooks {
 /// Gives the sessions that rest, the last one first, and a new one for each line, by new passes; then none, or a fault.
 #[derive(Drop)]
 pub struct Sessions<'a> {
+    pub alloc: Global,
     pub shared: &'a Shared,
-    pub wires: Wires<'a>,
+    pub counts: &'a Arc<Counts, Global>,
+    /// How many bytes a read gives and a write takes at most.
+    pub most: usize,
     pub resting: Vec<TestSession>,
     pub lines: &'a [Line],
     /// The number of the first of these lines.
@@ -102,7 +106,12 @@ impl<'a> Jobs for Sessions<'a> {
         let Some((line, rest)) = self.lines.split_first() else {
             return if self.fails { Err(JobFault) } else { Ok(None) };
         };
-        match new_session(self.shared, self.wires, self.number, line) {
+        let wires = Wires {
+            alloc: self.alloc,
+            counts: self.counts,
+            most: self.most,
+        };
+        match new_session(self.shared, wires, self.number, line) {
             Ok(session) => {
                 self.lines = rest;
                 self.number = self.number.saturating_add(1);
@@ -132,6 +141,6 @@ pub fn play<X: Threads + Wait + Sync, Q: Pause + Sync>(
         (concat (map (λ one. one.items) served.resting.items))) }
     ensures seen { ArePassesOf shared.now seen.new }
 {
-    let alloc = sessions.wires.alloc;
+    let alloc = sessions.alloc;
     serve(rt, alloc, shared, &mut sessions, seats, &Open, pause, seen)
 }

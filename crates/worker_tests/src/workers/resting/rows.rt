@@ -212,16 +212,13 @@ fn is_done<X: Wait>(rt: &X, alloc: Global, shared: &Shared, row: &Row, stage: St
     let Stage {
         resting,
         seen,
-        begun,
-        totals,
-        refused,
-        ..
+        sums,
     } = stage;
     resting.is_empty()
-        && begun == row.run.lines.len()
-        && refused == row.refused
-        && row.run.totals == Ok(totals)
-        && has_tallies(rt, alloc, shared, seen, totals, row.run)
+        && sums.begun == row.run.lines.len()
+        && sums.refused == row.refused
+        && row.run.totals == Ok(sums.totals)
+        && has_tallies(rt, alloc, shared, seen, sums.totals, row.run)
 }
 
 /// Whether what rests, and what didn't begin yet, comes to what the row says in a run that isn't paused.

@@ -184,11 +184,11 @@ fn divert_under(alloc: Global, shared: Shared, stage: &Stage) -> Option<Shared>
 }
 
 /// The stage behind a run that is paused after so many looks. None where not so many requests are answered then.
-fn pause_once<X: Threads + Wait + Sync>(
+fn pause_once<'x, X: Threads + Wait + Sync>(
     rt: &X,
     alloc: Global,
-    shared: &Shared,
-    lines: &[Line],
+    shared: &'x Shared,
+    lines: &'x [Line],
     stage: Stage,
     looks: u64,
     answered: u64,
@@ -210,7 +210,8 @@ fn pause_once<X: Threads + Wait + Sync>(
 
 /// Whether so many requests were answered.
 fn has_answered(stage: &Stage, answered: u64) -> bool {
-    stage.totals.gets.saturating_add(stage.totals.puts) == answered
+    let totals = stage.sums.totals;
+    totals.gets.saturating_add(totals.puts) == answered
 }
 
 /// Whether what the fallback accepted is copied back, and the diversion ended.
@@ -275,10 +276,9 @@ fn is_done<X: Wait>(rt: &X, alloc: Global, shared: &Shared, stage: Stage, turned
     let Stage {
         resting,
         seen,
-        totals,
-        ..
+        sums,
     } = stage;
-    resting.is_empty() && totals == wanted && has_accepted(rt, alloc, shared, seen, turned)
+    resting.is_empty() && sums.totals == wanted && has_accepted(rt, alloc, shared, seen, turned)
 }
 
 /// Whether the session, which rests while its partition is returned, if it isn't over, comes to what it says.
