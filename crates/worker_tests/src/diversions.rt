@@ -3,6 +3,7 @@
 //! fallback 98,304.
 ghost use Rattle.std.specs.Prelude.{◌≡◌, ◌<◌, ◌^◌, true, IfSome};
 ghost use Rattle.gate_node.specs.Passes.{Sights, ArePassesOf};
+ghost use Rattle.session_pool.specs.Resuming.{IsLater};
 
 use crate::exchanges::{GET_BOTH, NOTHING_ACCEPTED, NOTHING_COUNTED, STORED_TWICE, new_shared};
 use crate::playing::{NEW_SESSION, Session, play_on};
@@ -123,8 +124,10 @@ pub fn has_partition(handoff: &Handoff, index: u16) -> bool
 /// The gates with the partition at this index diverted, which can't be diverted again; they have the passes that they had. None where memory
 /// is refused, or there is no such partition, or the second diversion isn't refused.
 pub fn divert(alloc: Global, shared: Shared, index: u16, budget: u32) -> Option<Shared>
-    ensures { IfSome result (λ diverted.
+    ensures passes { IfSome result (λ diverted.
         (passes : Sights) → ArePassesOf shared passes → ArePassesOf diverted passes) }
+    ensures later { IfSome result (λ diverted.
+        shared.budget ≡ budget → shared.reads ≡ 100 → IsLater shared diverted) }
 {
     let mut handoff = shared.into_handoff();
     if !has_partition(&handoff, index) {

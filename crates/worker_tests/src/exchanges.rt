@@ -1,4 +1,6 @@
 //! Gates of a run, and requests of several tests with the replies to them.
+ghost use Rattle.std.specs.Prelude.{◌≡◌, IfSome};
+
 use gate_node::Shared;
 use ring_map::Ring;
 use stats_book::Totals;
@@ -80,6 +82,9 @@ pub fn accepted_of(totals: Totals) -> Tally {
 }
 
 /// The gates of run 1 on a ring of so many partitions, of which each answer forgets so many dead keys.
-pub fn new_shared(alloc: Global, partitions: u16, budget: u32) -> Option<Shared> {
+pub fn new_shared(alloc: Global, partitions: u16, budget: u32) -> Option<Shared>
+    ensures budget { IfSome result (λ shared. shared.budget ≡ budget) }
+    ensures reads { IfSome result (λ shared. shared.reads ≡ 100) }
+{
     Shared::new(alloc, Ring::new(partitions)?, 1, budget, 100).ok()
 }

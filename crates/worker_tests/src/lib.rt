@@ -27,6 +27,4 @@ mod return_race;
 #[cfg(test)]
 mod returns;
 #[cfg(test)]
-mod serving;
-#[cfg(test)]
 mod workers;

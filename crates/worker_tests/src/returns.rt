@@ -204,7 +204,7 @@ fn serves<W: Wait>(rt: &W, alloc: Global, shared: &Shared, times: u32, session: 
 }
 
 /// Whether a call for the partition at this index comes to what it says.
-fn comes<W: Wait>(rt: &W, alloc: Global, shared: &Shared, index: u16, call: &Call) -> bool {
+pub fn comes<W: Wait>(rt: &W, alloc: Global, shared: &Shared, index: u16, call: &Call) -> bool {
     let handoff = shared.handoff();
     if !has_partition(handoff, index) {
         return false;

@@ -60,49 +60,55 @@ pub const THREE_JOBS: &[Line] = &[
     },
 ];
 
+/// A put, a get, a delete, and a put and a get of a second life.
+pub const ONE_KEY: Run = Run {
+    shows: "a key lives twice",
+    partitions: 1,
+    budget: 1,
+    lines: &[Line {
+        input: TWO_LIVES,
+        fails: false,
+        result: Ok(Ended {
+            replies: 5,
+            rest: 0,
+        }),
+        written: LIVED_TWICE,
+    }],
+    fails: false,
+    totals: Ok(Totals {
+        gets: 2,
+        puts: 2,
+        deletes: 1,
+        refusals: 0,
+        reaps: 1,
+    }),
+    accepted: Tally {
+        writes: 2,
+        tombstones: 1,
+        reaps: 1,
+    },
+};
+
+/// The three jobs.
+pub const THREE: Run = Run {
+    shows: "three jobs end in their order, one cut and one without a writer",
+    partitions: 2,
+    budget: 1,
+    lines: THREE_JOBS,
+    fails: false,
+    totals: Ok(Totals {
+        gets: 1,
+        puts: 3,
+        deletes: 1,
+        refusals: 0,
+        reaps: 1,
+    }),
+    accepted: THREE_ACCEPTED,
+};
+
 pub const RUNS: &[Run] = &[
-    Run {
-        shows: "a key lives twice",
-        partitions: 1,
-        budget: 1,
-        lines: &[Line {
-            input: TWO_LIVES,
-            fails: false,
-            result: Ok(Ended {
-                replies: 5,
-                rest: 0,
-            }),
-            written: LIVED_TWICE,
-        }],
-        fails: false,
-        totals: Ok(Totals {
-            gets: 2,
-            puts: 2,
-            deletes: 1,
-            refusals: 0,
-            reaps: 1,
-        }),
-        accepted: Tally {
-            writes: 2,
-            tombstones: 1,
-            reaps: 1,
-        },
-    },
-    Run {
-        shows: "three jobs end in their order, one cut and one without a writer",
-        partitions: 2,
-        budget: 1,
-        lines: THREE_JOBS,
-        fails: false,
-        totals: Ok(Totals {
-            gets: 1,
-            puts: 3,
-            deletes: 1,
-            refusals: 0,
-            reaps: 1,
-        }),
-        accepted: THREE_ACCEPTED,
-    },
+    ONE_KEY,
+    THREE,
     Run {
         shows: "a source that fails behind its jobs fails the run, and the jobs were served",
         partitions: 2,
@@ -121,14 +127,14 @@ const THREE_ACCEPTED: Tally = Tally {
     reaps: 1,
 };
 
-/// Whether streams are those of a session over this line, and were ended once.
-pub fn are_streams(reader: &Input, writer: &Output, line: &Line) -> bool {
-    writer.held.as_slice() == line.written && reader.ended == 1 && writer.ended == 1
+/// Whether streams are those of a session over this line, and were ended so often.
+pub fn are_streams(reader: &Input, writer: &Output, line: &Line, times: u32) -> bool {
+    writer.held.as_slice() == line.written && reader.ended == times && writer.ended == times
 }
 
 /// Whether a session ended as its line says.
 fn is_end(end: &End<Input, Output>, line: &Line) -> bool {
-    end.result == line.result && are_streams(&end.reader, &end.writer, line)
+    end.result == line.result && are_streams(&end.reader, &end.writer, line, 1)
 }
 
 /// Whether these are the ends of the lines' jobs, in their order.

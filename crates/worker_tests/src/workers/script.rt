@@ -1,25 +1,49 @@
 //! A source of jobs by a list, and runs of it.
-ghost use Rattle.std.specs.Prelude.{◌≡◌, ◌+◌, ◌≤◌, length, vec_len, vec_capacity};
-ghost use Rattle.job_pool.specs.Lists.{Every};
-ghost use Rattle.worker_pool.specs.Tellers.{IsNewSeat};
-
-use crate::workers::kept_ends::KeptEnds;
-use crate::workers::seats::TestSeat;
 use crate::workers::streams::{Counts, Input, Output};
 use node_session::{Ended, SessionFault};
 use std::alloc::Global;
 use std::sync::{Arc, Wait};
 use std::thread::Threads;
-use worker_pool::{
-    Closed, Job, JobFault, Jobs, Open, Passes, Pool, PoolFault, Served, Shared, Turnstile,
-};
+use worker_pool::{Closed, Job, JobFault, Jobs, Passes, Pool, PoolFault, Shared, Turnstile};
 
 /// What a job reads, whether its writer fails, and how it ends.
+#[derive(Clone, Copy)]
 pub struct Line {
     pub input: &'static [u8],
     pub fails: bool,
     pub result: Result<Ended, SessionFault>,
     pub written: &'static [u8],
+}
+
+/// What the streams of a test are made by.
+#[derive(Clone, Copy)]
+pub struct Wires<'a> {
+    pub alloc: Global,
+    pub counts: &'a Arc<Counts, Global>,
+    /// How many bytes a read gives and a write takes at most.
+    pub most: usize,
+}
+
+/// The streams of a session over the line of this number. None where memory is refused.
+pub fn streams_of(wires: Wires<'_>, number: usize, line: &Line) -> Option<(Input, Output)> {
+    let Ok(counts) = Arc::try_clone(wires.counts) else {
+        return None;
+    };
+    let reader = Input {
+        rest: line.input,
+        most: wires.most,
+        ended: 0,
+    };
+    let writer = Output {
+        held: Vec::new(wires.alloc),
+        most: wires.most,
+        fails: line.fails,
+        line: number,
+        wanted: line.written,
+        ended: 0,
+        counts,
+    };
+    Some((reader, writer))
 }
 
 /// Gives a job for each line, by new passes, and then none, or a fault.
@@ -49,22 +73,18 @@ impl<'a> Jobs for Script<'a> {
         let Ok(passes) = Passes::new(self.alloc, self.shared) else {
             return Err(JobFault);
         };
-        let Ok(counts) = Arc::try_clone(self.counts) else {
+        let wires = Wires {
+            alloc: self.alloc,
+            counts: self.counts,
+            most: usize::MAX,
+        };
+        let Some((reader, writer)) = streams_of(wires, 0, line) else {
             return Err(JobFault);
         };
         self.lines = rest;
         Ok(Some(Job {
-            reader: Input {
-                rest: line.input,
-                ended: 0,
-            },
-            writer: Output {
-                held: Vec::new(self.alloc),
-                fails: line.fails,
-                wanted: line.written,
-                ended: 0,
-                counts,
-            },
+            reader,
+            writer,
             passes,
         }))
     }
@@ -79,19 +99,4 @@ pub fn play<X: Threads + Wait + Sync, T: Turnstile + Sync>(
     let alloc = script.alloc;
     let shared = script.shared;
     Pool::run(rt, alloc, shared, &mut script, 2, turnstile)
-}
-
-/// The same on the workers of two seats, whose sinks are told each end as it comes.
-pub fn serve<X: Threads + Wait + Sync>(
-    rt: &X,
-    mut script: Script<'_>,
-    seats: Vec<TestSeat>,
-) -> Result<Served<KeptEnds>, PoolFault>
-    requires count { length seats.items ≡ 2 }
-    requires new { Every (IsNewSeat (λ sink. sink.ends.items)
-        (λ sink n. vec_len sink.ends + n ≤ vec_capacity sink.ends)) seats.items }
-{
-    let alloc = script.alloc;
-    let shared = script.shared;
-    Pool::serve(rt, alloc, shared, &mut script, seats, &Open)
 }

@@ -1,15 +1,15 @@
-//! What the workers of [`Pool::serve`](worker_pool::Pool::serve) wait with over the streams of the tests, and are woken by.
+//! What the workers of [`serve`](session_pool::serve) wait with over the streams of the tests, and are woken by.
 ghost use Rattle.std.specs.Prelude.{◌≡◌, ◌+◌, ◌≤◌, length, vec_len, vec_capacity, IfOk};
 ghost use Rattle.job_pool.specs.Lists.{Every};
-ghost use Rattle.worker_pool.specs.Tellers.{IsNewSeat};
+ghost use Rattle.session_pool.specs.Tellers.{IsNewSeat};
 
 use crate::workers::kept_ends::KeptEnds;
 use crate::workers::streams::{Counts, Input, Output};
 use crossbeam_utils::sync::{Parker, Unparker};
 use job_pool::{Bell, Moved, Turn};
+use session_pool::{Seat, StreamReadiness};
 use std::alloc::{AllocError, Global};
 use std::sync::{Arc, Wait};
-use worker_pool::{Seat, StreamReadiness};
 
 /// All slots, one after another. A stream of a test is always ready, so a worker with a session open never sleeps.
 ///
@@ -31,19 +31,15 @@ pub struct Wake {
 /// What a worker of the tests is started with.
 pub type TestSeat = Seat<KeptEnds, InTurn, Wake>;
 
-/// A seat, whose sink has room for ends where there is to be memory for it.
-fn new_seat(
-    alloc: Global,
-    has_memory: bool,
-    counts: &Arc<Counts, Global>,
-) -> Result<TestSeat, AllocError>
+/// A seat, whose sink has memory for so many sessions.
+fn new_seat(alloc: Global, rooms: u32, counts: &Arc<Counts, Global>) -> Result<TestSeat, AllocError>
     ensures { IfOk result (IsNewSeat (λ sink. sink.ends.items)
         (λ sink n. vec_len sink.ends + n ≤ vec_capacity sink.ends)) }
 {
     let parker = Parker::new(alloc)?;
     let unparker = parker.unparker().clone()?;
     Ok(Seat {
-        sink: KeptEnds::new(alloc, has_memory, Arc::try_clone(counts)?),
+        sink: KeptEnds::new(alloc, rooms, Arc::try_clone(counts)?),
         readiness: InTurn {
             parker,
             next: 0,
@@ -54,19 +50,23 @@ fn new_seat(
     })
 }
 
-/// Two seats.
-pub fn two_seats(
+/// One seat or two, each with memory for so many sessions.
+pub fn new_seats(
     alloc: Global,
-    has_memory: bool,
+    are_two: bool,
+    rooms: u32,
     counts: &Arc<Counts, Global>,
 ) -> Result<Vec<TestSeat>, AllocError>
-    ensures count { IfOk result (λ seats. length seats.items ≡ 2) }
+    ensures count { IfOk result (λ seats.
+        (1 ≤ length seats.items) × (length seats.items ≤ 2)) }
     ensures new { IfOk result (λ seats. Every (IsNewSeat (λ sink. sink.ends.items)
         (λ sink n. vec_len sink.ends + n ≤ vec_capacity sink.ends)) seats.items) }
 {
     let mut seats = Vec::with_capacity(alloc, 2)?;
-    seats.push(new_seat(alloc, has_memory, counts)?)?;
-    seats.push(new_seat(alloc, has_memory, counts)?)?;
+    seats.push(new_seat(alloc, rooms, counts)?)?;
+    if are_two {
+        seats.push(new_seat(alloc, rooms, counts)?)?;
+    }
     Ok(seats)
 }
 

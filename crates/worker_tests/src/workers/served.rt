@@ -1,17 +1,22 @@
-//! Runs of two workers that keep no end: a sink is told each as it comes, or that there was no room for its job.
+//! Runs of two workers that keep no end: a sink is told each as it comes, or that there was no room for its session.
+ghost use Rattle.gate_node.specs.Passes.{ArePassesOf};
+
 use crate::exchanges::{NOTHING_ACCEPTED, NOTHING_COUNTED, new_shared};
 use crate::workers::kept_ends::KeptEnds;
 use crate::workers::runs::{RUNS, Run, THREE_JOBS, are_streams, are_tallies, is_accepted};
-use crate::workers::script::{Line, Script, serve};
-use crate::workers::seats::two_seats;
+use crate::workers::script::Line;
+use crate::workers::seats::new_seats;
+use crate::workers::sessions::{Sessions, TestServed, play};
 use crate::workers::streams::{Counts, Input, Output};
+use gate_node::tallies_of;
+use session_pool::{NoPause, Passes, PoolFault, SessionEnd, Shared};
+use stats_book::Totals;
 use std::alloc::Global;
 use std::process::Abort;
 use std::sync::atomic::Ordering;
 use std::sync::{Arc, Wait};
 use std::test::*;
 use std::thread::Threads;
-use worker_pool::{PoolFault, Served, SessionEnd, Shared};
 
 /// Runs whose sinks have no room for an end.
 const REFUSED: &[Run] = &[
@@ -37,11 +42,11 @@ const REFUSED: &[Run] = &[
 
 /// Whether a session ended as its line says.
 fn is_end(end: &SessionEnd<Input, Output>, line: &Line) -> bool {
-    end.result == line.result && are_streams(&end.reader, &end.writer, line)
+    end.result == line.result && are_streams(&end.reader, &end.writer, line, 0)
 }
 
 /// How often these sinks were told the end of a line's job, under its number.
-fn times_told(sinks: &[KeptEnds], number: usize, line: &Line) -> usize {
+pub fn times_told(sinks: &[KeptEnds], number: usize, line: &Line) -> usize {
     let mut times = 0usize;
     for sink in sinks {
         for told in &sink.ends {
@@ -54,7 +59,7 @@ fn times_told(sinks: &[KeptEnds], number: usize, line: &Line) -> usize {
 }
 
 /// How often these sinks were told that the job of this number was refused.
-fn times_refused(sinks: &[KeptEnds], number: usize) -> usize {
+pub fn times_refused(sinks: &[KeptEnds], number: usize) -> usize {
     let mut times = 0usize;
     for sink in sinks {
         for refused in &sink.refused {
@@ -78,14 +83,41 @@ fn are_told(sinks: &[KeptEnds], lines: &[Line], has_room: bool) -> bool {
 }
 
 /// Whether what a run left is as it says.
-fn is_served(served: &Served<KeptEnds>, run: &Run, has_room: bool) -> bool {
+fn is_served(served: &TestServed, run: &Run, has_room: bool) -> bool {
     let jobs = run.lines.len() as u64;
     run.totals == Ok(served.totals)
         && served.accepted == jobs
         && served.refused == if has_room { 0 } else { jobs }
         && are_told(served.sinks.as_slice(), run.lines, has_room)
-        && are_tallies(served.tallies.as_slice(), served.totals, run)
-        && served.count_all
+        && none_rests(served)
+}
+
+/// Whether no session of a run rests.
+fn none_rests(served: &TestServed) -> bool {
+    for resting in &served.resting {
+        if !resting.is_empty() {
+            return false;
+        }
+    }
+    true
+}
+
+/// Whether the vnodes accepted what was counted, and what they are to, of histories of which these passes have seen beginnings.
+pub fn has_tallies<X: Wait>(
+    rt: &X,
+    alloc: Global,
+    shared: &Shared,
+    seen: Passes,
+    totals: Totals,
+    run: &Run,
+) -> bool
+    requires { ArePassesOf shared.now seen }
+{
+    let callers = [seen];
+    match tallies_of(rt, alloc, shared, &callers) {
+        Ok(found) => are_tallies(found.tallies.as_slice(), totals, run) && found.count_all,
+        Err(_) => false,
+    }
 }
 
 /// Whether a run over these gates comes to what it says, also where it fails: each of its jobs was told or refused.
@@ -99,18 +131,28 @@ fn serve_over<X: Threads + Wait + Sync>(
     let Ok(counts) = Arc::new(alloc, Counts::new()) else {
         return false;
     };
-    let Ok(seats) = two_seats(alloc, has_room, &counts) else {
+    let rooms = if has_room { u32::MAX } else { 0 };
+    let Ok(seats) = new_seats(alloc, true, rooms, &counts) else {
         return false;
     };
-    let script = Script {
+    let Ok(mut seen) = Passes::new(alloc, shared) else {
+        return false;
+    };
+    let sessions = Sessions {
         alloc,
         shared,
         counts: &counts,
+        most: usize::MAX,
+        resting: Vec::new(alloc),
         lines: run.lines,
+        number: 0,
         fails: run.fails,
     };
-    let is_so = match serve(rt, script, seats) {
-        Ok(served) => is_served(&served, run, has_room),
+    let is_so = match play(rt, shared, sessions, seats, &NoPause, &mut seen) {
+        Ok(served) => {
+            is_served(&served, run, has_room)
+                && has_tallies(rt, alloc, shared, seen, served.totals, run)
+        }
         Err(fault) => run.totals == Err(fault),
     };
     let jobs = run.lines.len() as u64;

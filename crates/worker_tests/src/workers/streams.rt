@@ -9,9 +9,9 @@ use worker_pool::{EndRead, EndWrite};
 /// What came of the jobs of a run, as its streams and its sinks count it. A run that fails lets these go, and leaves the counts.
 #[derive(Drop)]
 pub struct Counts {
-    /// The writes to all writers, each of a reply.
+    /// The writes to all writers, each of a reply where they take all bytes at once.
     pub writes: AtomicU64,
-    /// The writers that were ended with just the bytes that they were to hold.
+    /// The writers that held just the bytes that they were to hold, once their sessions were over.
     pub well_ended: AtomicU64,
     /// The ends that were told.
     pub ends: AtomicU64,
@@ -38,10 +38,11 @@ impl Counts {
     }
 }
 
-/// Gives these bytes.
+/// Gives these bytes, so many at a time.
 #[derive(Drop)]
 pub struct Input {
     pub rest: &'static [u8],
+    pub most: usize,
     pub ended: u32,
 }
 
@@ -51,7 +52,7 @@ impl Read for Input {
     ghost remaining = { λ r. Some r.rest.now };
 
     fn read(&mut self, buf: &mut [u8]) -> io::Result<usize> {
-        let n = self.rest.len().min(buf.len());
+        let n = self.rest.len().min(buf.len()).min(self.most.max(1));
         let (front, rest) = self.rest.split_at(n);
         buf[..n].copy_from_slice(front);
         self.rest = rest;
@@ -65,15 +66,27 @@ impl EndRead for Input {
     }
 }
 
-/// Takes all bytes and raises a number that others see, or fails at each write.
+/// Takes all bytes, so many at a time, and raises a number that others see, or fails at each write.
 #[derive(Drop)]
 pub struct Output {
     pub held: Vec<u8>,
+    pub most: usize,
     pub fails: bool,
+    /// Which of the lines of a test it is of.
+    pub line: usize,
     /// What it is to hold when it is ended.
     pub wanted: &'static [u8],
     pub ended: u32,
     pub counts: Arc<Counts, Global>,
+}
+
+impl Output {
+    /// Counts it, if it holds just the bytes that it is to hold when it is ended.
+    pub fn count_end(&self) {
+        if self.held.as_slice() == self.wanted {
+            self.counts.well_ended.fetch_add(1, Ordering::SeqCst);
+        }
+    }
 }
 
 impl Write for Output {
@@ -85,9 +98,10 @@ impl Write for Output {
         if self.fails {
             return Err(io::Error::from(ErrorKind::ConnectionReset));
         }
-        self.held.extend_from_slice(buf)?;
+        let n = buf.len().min(self.most.max(1));
+        self.held.extend_from_slice(&buf[..n])?;
         self.counts.writes.fetch_add(1, Ordering::SeqCst);
-        Ok(buf.len())
+        Ok(n)
     }
 
     fn flush(&mut self) -> io::Result<()> {
@@ -97,9 +111,7 @@ impl Write for Output {
 
 impl EndWrite for Output {
     fn ended(&mut self) {
-        if self.held.as_slice() == self.wanted {
-            self.counts.well_ended.fetch_add(1, Ordering::SeqCst);
-        }
+        self.count_end();
         self.ended = self.ended.saturating_add(1);
     }
 }
