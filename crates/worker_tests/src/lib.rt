@@ -27,4 +27,6 @@ mod return_race;
 #[cfg(test)]
 mod returns;
 #[cfg(test)]
+mod serving;
+#[cfg(test)]
 mod workers;
