@@ -96,7 +96,6 @@ told_is_legal remaining contents shared given seen one tallies count_all new non
     let at = told_at remaining contents histories shared given seen one saw h in
     let ended = with_passes one.end one.passes one.session.origin in
     record {
-      histories = histories;
       legal = plain.legal;
       ends = record {
         after = at.after;

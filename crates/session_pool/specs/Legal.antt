@@ -12,9 +12,8 @@ use Rattle.session_pool.specs.Suspending.{SuspendedView}
 use Rattle.session_pool.specs.Telling.{ToldSession, IsToldSession, with_passes}
 
 module _ {R W : Type 0} (remaining : R → Option (List ℕ)) (contents : W → Option (List ℕ)) (shared : Gates) where
-  -- there are histories of the vnodes, legal for the sibling register, and the session is by steps of that among others, in these
-  pub record AnswersLegally (one : ToldSession R W) : Type 0 where
-    pub histories : List GateHistory
+  -- these histories are legal for the sibling register, and the session is by steps of that among others, in these
+  pub record AnswersLegally (histories : List GateHistory) (one : ToldSession R W) : Type 0 where
     pub legal : AreLegal shared histories
     pub ends : IsEndOf remaining contents shared (AnswersAsRegister shared histories) one.session one.counted false (with_passes one.end one.passes one.session.origin)
 
@@ -22,5 +21,5 @@ module _ {R W : Type 0} (remaining : R → Option (List ℕ)) (contents : W → 
   abbrev pub ToldSessionIsLegal : List (SuspendedView R W) → Sights → ToldSession R W → Type 0
   ToldSessionIsLegal given seen one = (tallies : List Tally) (count_all : Bool)
       → AreOfNewRun shared.run shared.gates → AreNone shared.fallbacks → count_all ≡ true → ArePassesOf shared seen
-      → ShareHistories (λ (s : Sights). s) shared.gates (seen ∷ []) tallies count_all
-      → IsToldSession remaining contents shared given seen one → AnswersLegally one
+      → (shares : ShareHistories (λ (s : Sights). s) shared.gates (seen ∷ []) tallies count_all)
+      → IsToldSession remaining contents shared given seen one → AnswersLegally shares.histories one

@@ -77,7 +77,7 @@ pub fn told_sessions_are_at_positions<R, W>()
 {}
 
 /// Every reply of every such session, but an error of the gate and one for which memory was refused, is legal for the sibling register: at a position of
-/// one legal history of its key's vnode, which has all that the session had seen of that.
+/// one legal history of its key's vnode, the same for all sessions, which has all that the session had seen of that.
 ///
 /// It asks that no partition of the run has a fallback; that the tallies count all of the histories (`tallies_of` of `gate_node`); that the gates are those of a
 /// new run `Shared` says.
