@@ -1,8 +1,9 @@
 //! The end of a diversion.
-ghost use Rattle.std.specs.Prelude.{◌≡◌, true, length, IfOk, IfErr, IfSome, OnOk, []};
+ghost use Rattle.std.specs.Prelude.{◌≡◌, ◌↔◌, IsTrue, length, IfOk, IfErr, IfSome, OnOk, []};
+ghost use mathlib.Core.List.{IsPrefix};
 ghost use Rattle.rw_gate.specs.Histories.{IsReplayed};
 ghost use Rattle.vnode_core.specs.Events.{Makes};
-ghost use Rattle.handoff.specs.Endings.{ClosesWith, EndsSo, IsEndFault};
+ghost use Rattle.handoff.specs.Endings.{ClosesWith, EndsSo, IsCloseStop, IsEndFault, IsEndStop};
 ghost use Rattle.handoff.specs.Returning.{EndsFrom, OfGates};
 ghost use Rattle.handoff.specs.Sights.{IsOfVnode, state_of};
 ghost use Rattle.handoff.specs.Started.{HasStayed, IsSameBelow, IsStartOf, updates_counted};
@@ -113,7 +114,8 @@ fn close_shown(
     ensures mine { mine.new.gate ≡ mine.old.gate }
     ensures theirs { theirs.new.gate ≡ theirs.old.gate }
     ensures ending { IfOk result (EndsSo start.now mine.new theirs.new) }
-    ensures stop { IfErr result (IsStopOf theirs.new) }
+    ensures stop { IfErr result
+        (IsEndStop start.now reader.now writer.old mine.new theirs.new) }
 {
     let to = reader.look(mine)?;
     let from = writer.look(theirs)?;
@@ -138,7 +140,7 @@ fn close_shown(
 
 /// Whether two tallies are the same, and no count of them is at its stop.
 fn is_same_below(first: &Tally, last: &Tally) -> bool
-    ensures { result ≡ true → IsSameBelow first.now last.now }
+    ensures { IsTrue result ↔ IsSameBelow first.now last.now }
 {
     first.writes == last.writes
         && first.tombstones == last.tombstones
@@ -148,10 +150,22 @@ fn is_same_below(first: &Tally, last: &Tally) -> bool
         && last.reaps < u64::MAX
 }
 
+/// Whether what a pass has seen begins what another of its gate has.
+fn begins(first: &Pass<Vnode>, last: &Pass<Vnode>) -> bool
+    requires { last.now.gate ≡ first.now.gate }
+    ensures { IsTrue result ↔ IsPrefix first.now.prefix last.now.prefix }
+{
+    if first.is_behind(last) {
+        return true;
+    }
+    // where both have seen as much, either begins the other
+    first.seen() == last.seen()
+}
+
 /// Whether a primary isn't closed and accepted no command since its partition was diverted, by what its pass has seen.
 fn has_stayed(primary: &Vnode, start: &Option<Start>, mine: &Pass<Vnode>) -> bool
     requires { IfSome start.now (IsStartOf mine.now.gate) }
-    ensures { result ≡ true → HasStayed start.now primary.now.state mine.now }
+    ensures { IsTrue result ↔ HasStayed start.now primary.now.state mine.now }
 {
     let Some(from) = start else {
         return false;
@@ -160,7 +174,7 @@ fn has_stayed(primary: &Vnode, start: &Option<Start>, mine: &Pass<Vnode>) -> boo
         Some(_) => return false,
         None => {}
     }
-    if !from.pass.is_behind(mine) {
+    if !begins(&from.pass, mine) {
         return false;
     }
     let tally = primary.tally();
@@ -169,12 +183,13 @@ fn has_stayed(primary: &Vnode, start: &Option<Start>, mine: &Pass<Vnode>) -> boo
 
 /// Whether a vnode took writes and deletes alone, and its pass has seen all of them.
 fn took_updates_alone(vnode: &Vnode, pass: &Pass<Vnode>) -> bool
-    ensures { result ≡ true → updates_counted vnode.now.state ≡ length pass.now.prefix }
+    ensures { IsTrue result ↔ (updates_counted vnode.now.state ≡ length pass.now.prefix) }
 {
     let tally = vnode.tally();
+    let seen = pass.seen();
     match tally.writes.checked_add(tally.tombstones) {
         None => false,
-        Some(updates) => updates == pass.seen(),
+        Some(updates) => updates == seen,
     }
 }
 
@@ -190,12 +205,13 @@ fn close(
     requires replay { IsReplayed state_of Makes writer.old }
     ensures gate { theirs.new.gate ≡ theirs.old.gate }
     ensures closed { OnOk result (ClosesWith number theirs.old theirs.new) }
-    ensures stop { IfErr result (IsStopOf theirs.new) }
+    ensures stop { IfErr result (IsCloseStop writer.old theirs.new) }
 {
     match ask_shown(writer, alloc, theirs, Ask::Close(number)) {
         AskOutcome::Made(_) => Ok(()),
         AskOutcome::Told(_) => Err(Stop::NotDiverted),
         AskOutcome::Refused(_) => Err(Stop::NoMemory),
-        AskOutcome::Moved | AskOutcome::Full => Err(Stop::GateStopped),
+        AskOutcome::Moved => Err(Stop::GateStopped),
+        AskOutcome::Full => Err(Stop::GateStopped),
     }
 }

@@ -1,4 +1,4 @@
-use Rattle.std.proofs.Common.{◌≡◌, ◌∙◌, [], ◌∷◌, ◌++◌, ap, sym, subst, length}
+use Rattle.std.proofs.Common.{◌≡◌, ◌∙◌, [], ◌∷◌, ◌++◌, ap, sym, subst, length, true, false, inl, inr}
 use Rattle.std.specs.Prelude.{None, Some, IfSome}
 use Rattle.clock_store.specs.Keys.{Keys, stored_of}
 use Rattle.rw_gate.specs.Views.{GateId}
@@ -7,6 +7,8 @@ use Rattle.vnode_core.specs.Plans.{View}
 use Rattle.vnode_core.proofs.Lefts.{behind-none}
 use Rattle.handoff.specs.declared.left.Left.{Left}
 use Rattle.handoff.specs.declared.gates.Start.{Start}
+use Rattle.handoff.specs.declared.fault.Stop.TheVariants as stops
+use Rattle.handoff.specs.Endings.{IsEndStop}
 use Rattle.handoff.specs.Left.{IsFirstLeft, IsNextLeft}
 use Rattle.handoff.specs.Returning.{EndsDiversion}
 use Rattle.handoff.specs.Sights.{IsOfVnode, LeadsVnodeTo}
@@ -15,6 +17,7 @@ use Rattle.handoff.proofs.Between.{took-copies}
 use Rattle.handoff.proofs.Counted.{seen-updates}
 use Rattle.handoff.proofs.Copies.{if-none, if-some}
 use Rattle.handoff.proofs.Showing.{shown, shown-sound}
+use Rattle.handoff.proofs.Stopping.{close-stop, if-err-one, went-on}
 use Rattle.handoff.proofs.returning.close_shown.Goals as goal
 
 pub first_left-requires : goal.first_left-requires
@@ -53,9 +56,9 @@ returns-clause-ending c =
     let mine = c.look.new.pass in
     let here = shown c.args.reader.now mine c.in_ok-to.to.now c.look.ensures.replay (c.look.ensures.gate ∙ c.requires.mine) c.in_ok-to.ensures.seen c.in_ok-to.ensures.shown in
     let there = shown c.args.writer.now c.look-2.new.pass c.in_ok-from.from.now c.look-2.ensures.replay (c.look-2.ensures.gate ∙ c.requires.theirs) c.in_ok-from.ensures.seen c.in_ok-from.ensures.shown in
-    let stayed = c.has_stayed.ensures c.if-not-has_stayed.false in
+    let stayed = c.has_stayed.ensures.0 c.if-not-has_stayed.false in
     let vnode = subst IsOfVnode (sym (c.look-2.ensures.gate ∙ c.requires.theirs)) c.requires.vnode in
-    let took = seen-updates vnode.id vnode.last_epoch c.look-2.new.pass.gate before fallback vnode.made_new there (c.took_updates_alone.ensures c.if-not-took_updates_alone.false) in
+    let took = seen-updates vnode.id vnode.last_epoch c.look-2.new.pass.gate before fallback vnode.made_new there (c.took_updates_alone.ensures.0 c.if-not-took_updates_alone.false) in
     let starts : (from : Start) → c.args.start.now ≡ Some from → IsStartOf mine.gate from
     = λ from is. if-some (IsStartOf mine.gate) c.args.start.now from is (subst (λ (g : GateId View). IfSome c.args.start.now (IsStartOf g)) (sym (c.look.ensures.gate ∙ c.requires.mine)) c.requires.start) in
     let ended : EndsDiversion mine c.close.new.theirs = record {
@@ -75,3 +78,35 @@ returns-clause-ending c =
       own_here = c.look.ensures.own ∙ c.requires.own;
     } in
     record { ended = ended; since = took-copies c.args.start.now primary mine stayed starts here }
+
+pub returns-in_err-to-clause-stop : goal.returns-in_err-to-clause-stop
+returns-in_err-to-clause-stop c =
+    if-err-one c.from_residual.result (IsEndStop c.args.start.now c.args.reader.now c.args.writer.now c.look.new.pass c.args.theirs.now) stops.GateStopped c.from_residual.ensures.1
+    (inl (went-on c.args.reader.now c.look.new.pass _ c.in_err-to.ensures.moved))
+
+pub returns-in_err-from-clause-stop : goal.returns-in_err-from-clause-stop
+returns-in_err-from-clause-stop c =
+    if-err-one c.from_residual-in_err-from.result (IsEndStop c.args.start.now c.args.reader.now c.args.writer.now c.look.new.pass c.look-2.new.pass) stops.GateStopped c.from_residual-in_err-from.ensures.1
+    (inr (inr (inl (went-on c.args.writer.now c.look-2.new.pass _ c.in_err-from.ensures.moved))))
+
+pub returns-then-not-has_stayed-clause-stop : goal.returns-then-not-has_stayed-clause-stop
+returns-then-not-has_stayed-clause-stop c =
+    inr (inl (record {
+      state = c.in_ok-to.to.now.state;
+      shows = shown c.args.reader.now c.look.new.pass c.in_ok-to.to.now c.look.ensures.replay (c.look.ensures.gate ∙ c.requires.mine) c.in_ok-to.ensures.seen c.in_ok-to.ensures.shown;
+      changed = λ stayed. let both : true ≡ false = sym (c.has_stayed.ensures.1 stayed) ∙ c.if-not-has_stayed.true in cc both;
+    }))
+
+pub returns-then-not-took_updates_alone-clause-stop : goal.returns-then-not-took_updates_alone-clause-stop
+returns-then-not-took_updates_alone-clause-stop c =
+    inr (inr (inr (inr (record {
+      state = c.in_ok-from.from.now.state;
+      shows = shown c.args.writer.now c.look-2.new.pass c.in_ok-from.from.now c.look-2.ensures.replay (c.look-2.ensures.gate ∙ c.requires.theirs) c.in_ok-from.ensures.seen c.in_ok-from.ensures.shown;
+      others = λ all. let both : true ≡ false = sym (c.took_updates_alone.ensures.1 all) ∙ c.if-not-took_updates_alone.true in cc both;
+    }))))
+
+pub returns-in_err-close-clause-stop : goal.returns-in_err-close-clause-stop
+returns-in_err-close-clause-stop c =
+    let theirs = c.close.new.theirs in
+    if-err-one c.from_residual-in_err-close.result (IsEndStop c.args.start.now c.args.reader.now c.args.writer.now c.look.new.pass theirs) c.in_err-close.field-0.0 c.from_residual-in_err-close.ensures.1
+    (close-stop c.args.start.now c.args.reader.now c.args.writer.now c.look.new.pass theirs c.in_err-close.field-0.0 c.in_err-close.ensures.stop)
