@@ -164,6 +164,7 @@ impl<'a, S: Service, K: Sink<S> + Drop> Desk<'a, S, K> {
 
     /// Takes one step of the job in a slot. Its end, if it comes to that, is told the sink, and the slot is free. In a slot that is free
     /// nothing is done.
+    #[inline(always)]
     pub(crate) fn step(&mut self, alloc: Global, slot: usize, may_wait: bool) -> Moved
         ensures service { self.new.service ≡ self.old.service }
         ensures first { self.new.first ≡ self.old.first }
