@@ -2,6 +2,7 @@
 
 mod closing;
 mod copying;
+mod long;
 mod meeting;
 mod parts;
 mod playing;
