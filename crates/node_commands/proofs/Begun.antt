@@ -1,12 +1,10 @@
 -- The sessions of a source of which none rested: one for each connection.
-use Rattle.std.proofs.Common.{◌≡◌, ◌∙◌, ℕ, ◌+◌, false, None, Some, List, [], ◌∷◌, length, map, refl, ap, sym, subst, arith}
+use Rattle.std.proofs.Common.{◌≡◌, ◌∙◌, ◌+◌, None, List, [], ◌∷◌, ◌++◌, length, map, ap, sym, subst, arith}
 use Rattle.std.proofs.lemmas.List.{length-map}
 use Rattle.std.proofs.lemmas.List.Elements.{All-cons, All-head, All-nil}
-use Rattle.std.specs.Prelude.{Option, Result, Ok, Err, IfSome}
 use Rattle.std.specs.List.{AllZip}
-use Rattle.job_pool.specs.Giving.{Gave, GaveAll, GivesOnly}
+use Rattle.job_pool.specs.Giving.{GaveAll, GivesOnly}
 use Rattle.job_pool.specs.Lists.{Every}
-use Rattle.job_pool.specs.declared.jobs.JobFault.{JobFault}
 use Rattle.gate_node.specs.Gates.{Gates}
 use Rattle.gate_node.specs.OneHistory.{IsSeen}
 use Rattle.gate_node.specs.Passes.{Sights, ArePassesOf}
@@ -18,9 +16,9 @@ use Rattle.session_pool.proofs.Legal.{told_at}
 use Rattle.worker_pool.specs.declared.job.Job.{Job}
 use Rattle.socket_streams.specs.declared.halves.RequestHalf.{RequestHalf}
 use Rattle.socket_streams.specs.declared.halves.ReplyHalf.{ReplyHalf}
-use Rattle.socket_streams.specs.Arriving.{ArrivalsView, IsSameSource, IsNewConnection, GivesConnection}
-use Rattle.socket_streams.specs.Sessions.{SessionsView, GivesSession, GivesFirst, begun_by}
-use Rattle.socket_streams.proofs.Resting.{gives_for}
+use Rattle.socket_streams.specs.Arriving.{GivesConnection}
+use Rattle.socket_streams.specs.Sessions.{SessionsView, GivesSession, begun_by}
+use Rattle.socket_streams.proofs.Resting.{gave_sessions, gives_for}
 use Rattle.node_commands.specs.Runs.{AreTold, IsAtPositions, IsTallied, ToldConnections, replies_of}
 use Rattle.node_commands.specs.declared.until.ServedUntil.{ServedUntil}
 use Rattle.node_commands.proofs.Sources.{gave_all, new_for}
@@ -31,45 +29,19 @@ Session = SuspendedView RequestHalf ReplyHalf
 abbrev Connection : Type 0
 Connection = Job RequestHalf ReplyHalf
 
--- of a source of which no session rests
-abbrev none_first : (first : SessionsView) (given : Result (Option Session) JobFault) (last : SessionsView) → first.rested ≡ [] → GivesSession first given last → GivesFirst [] first.source given last
-none_first first given last none gives = subst (λ (rested : List Session). GivesFirst rested first.source given last) none gives
-
--- it gave sessions for these connections
-pub record GaveBegun (first : SessionsView) (given : List Session) (last : SessionsView) : Type 0 where
-  pub jobs : List Connection
-  pub begun : given ≡ map (begun_by first.source.gates) jobs
-  pub gave : Gave GivesConnection first.source jobs last.source
-  pub none : last.rested ≡ []
-
-gave_begun : (first : SessionsView) (given : List Session) (last : SessionsView) → first.rested ≡ [] → Gave GivesSession first given last → GaveBegun first given last
-gave_begun first [] last none is = record { jobs = []; begun = refl; gave = ap (λ (s : SessionsView). s.source) is; none = ap (λ (s : SessionsView). s.rested) is ∙ none }
-gave_begun first (session ∷ given) last none h =
-    let mid = h.0 in
-    let here = none_first first (Ok (Some session)) mid none h.1 in
-    let job = here.1.0 in
-    let rest = gave_begun mid given last here.0 h.2 in
-    let same : mid.source.gates ≡ first.source.gates = here.1.1.0.gates in
-    record {
-      jobs = job ∷ rest.jobs;
-      begun = cc (here.1.2, subst (λ (gates : Gates). given ≡ map (begun_by gates) rest.jobs) same rest.begun);
-      gave = (mid.source, here.1.1, rest.gave);
-      none = rest.none;
-    }
-
--- and then none more
+-- all that a source gave of which no session rests: a session for each connection that came
 pub all_begun : (first : SessionsView) (given : List Session) (last : SessionsView) → first.rested ≡ [] → GaveAll GivesSession first given last
     → (jobs : List Connection) × (given ≡ map (begun_by first.source.gates) jobs) × GaveAll GivesConnection first.source jobs last.source
 all_begun first given last none h =
-    let gave = gave_begun first given h.0 none h.1 in
-    let end = none_first h.0 (Ok None) last gave.none h.2 in
-    (gave.jobs, gave.begun, (h.0.source, gave.gave, end.1))
+    let gave = gave_sessions first given last h in
+    (gave.jobs, gave.are ∙ ap (λ (rested : List Session). rested ++ map (begun_by first.source.gates) gave.jobs) none, gave.gave)
 
 -- what it gives may go on over its gates
 pub begun_may : (first : SessionsView) (gates : Gates) → first.rested ≡ [] → first.source.gates ≡ gates → GivesOnly GivesSession (CanGoOn gates) first
 begun_may first gates none same = gives_for gates first (subst (Every (CanGoOn gates)) (sym none) tt, same)
 
-every_at : (histories : List GateHistory) (gates : Gates) (given : List Session) (seen : Sights) → AllZip IsSeen histories seen.primaries → (ended : List (ToldSession RequestHalf ReplyHalf))
+-- sessions that ended are by steps in histories of which these passes have seen beginnings
+pub every_at : (histories : List GateHistory) (gates : Gates) (given : List Session) (seen : Sights) → AllZip IsSeen histories seen.primaries → (ended : List (ToldSession RequestHalf ReplyHalf))
     → Every (IsToldSession (λ _. None) replies_of gates given seen) ended → Every (IsAtPositions histories gates) ended
 every_at histories gates given seen saw [] h = tt
 every_at histories gates given seen saw (one ∷ ended) h = (told_at (λ _. None) replies_of histories gates given seen one saw h.0, every_at histories gates given seen saw ended h.1)

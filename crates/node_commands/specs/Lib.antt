@@ -2,3 +2,5 @@
 pub mod Runs
 pub mod Lines
 pub mod Asked
+pub mod Periods
+pub mod Console

@@ -1,4 +1,4 @@
--- The two lines that a run of connections writes, and why it stopped in words.
+-- The lines that a run of connections writes, and why it stopped in words.
 use Rattle.std.specs.Prelude.{ℕ, List, codes, decimal, ◌++◌}
 use Rattle.stats_book.specs.declared.totals.Totals.{Totals}
 use Rattle.node_commands.specs.declared.fault.ServeFault.{ServeFault}
@@ -19,6 +19,14 @@ others_text t = codes " refusals " ++ decimal t.refusals ++ codes " reaps " ++ d
 -- the line of the totals
 abbrev pub totals_line : Totals → List ℕ
 totals_line t = commands_text t ++ others_text t
+
+-- the same of a server that goes on, with how many connections it has accepted
+abbrev pub open_text : Totals → ℕ → List ℕ
+open_text t connections = codes " refusals " ++ decimal t.refusals ++ codes " reaps " ++ decimal t.reaps ++ codes " connections " ++ decimal connections ++ codes "\n"
+
+-- the line of its totals
+abbrev pub open_line : Totals → ℕ → List ℕ
+open_line t connections = commands_text t ++ open_text t connections
 
 -- why serving stopped, in words
 abbrev pub serve_fault_text : ServeFault → List ℕ

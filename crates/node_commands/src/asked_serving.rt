@@ -1,9 +1,11 @@
 //! Serving as the options of a command line ask for.
 
 ghost use Rattle.std.specs.Prelude.{◌≡◌, ◌≤◌, length, Some, None, IfOk, IfSome};
+ghost use Rattle.node_commands.specs.Periods.{IsControlled};
 ghost use Rattle.node_commands.specs.Runs.{IsServedUntil};
 ghost use Rattle.node_commands.specs.Asked.{settings_of};
 
+use crate::controlled::{Controlled, serve_controlled};
 use crate::fault::ServeFault;
 use crate::options::ServingOptions;
 use crate::until::{ServedUntil, UntilSettings, serve_on_until};
@@ -64,4 +66,25 @@ where
 {
     let settings = settings_of(options, ring);
     serve_on_until(rt, alloc, listener, &settings, until, writer)
+}
+
+/// Serves the connections of a listener on this ring, as [`serve_controlled`] does, in the way that these options ask for, while an operator says on a console
+/// what is to be done.
+pub fn serve_as_controlled<T, I, O>(
+    rt: &T,
+    alloc: Global,
+    listener: TcpListener,
+    ring: Ring,
+    options: ServingOptions,
+    input: I,
+    output: O,
+) -> Result<Controlled, ServeFault>
+where
+    T: Log + Clock + Net + Threads + Wait + Sync,
+    I: Read + Send + Drop,
+    O: Write + Send + Drop,
+    ensures { IfOk result (IsControlled (settings_of options ring)) }
+{
+    let settings = settings_of(options, ring);
+    serve_controlled(rt, alloc, listener, &settings, input, output)
 }

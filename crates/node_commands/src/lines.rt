@@ -1,7 +1,8 @@
-//! The two lines that a run of connections writes.
+//! The lines that a run of connections writes.
 ghost use Rattle.std.specs.Prelude.{OnOk};
 ghost use Rattle.std.specs.Io.KnownBytes.{Appends};
-ghost use Rattle.node_commands.specs.Lines.{address_line, commands_text, others_text, totals_line};
+ghost use Rattle.node_commands.specs.Lines.{address_line, commands_text, open_line, open_text};
+ghost use Rattle.node_commands.specs.Lines.{others_text, totals_line};
 
 use log::{Log, warn};
 use stats_book::Totals;
@@ -60,6 +61,35 @@ pub(crate) fn report<W: Write>(totals: Totals, writer: &mut W) -> io::Result<()>
     let written = write_totals(writer, totals);
     writer.flush()?;
     written
+}
+
+/// Writes how many refusals and reaps were counted and how many connections were accepted, to the line's end.
+fn write_open<W: Write>(writer: &mut W, totals: Totals, connections: u64) -> io::Result<()>
+    ensures { OnOk result
+        (Appends (W.contents writer.old) (W.contents writer.new) (open_text totals connections)) }
+{
+    let Totals {
+        refusals,
+        reaps,
+        ..
+    } = totals;
+    writeln!(
+        writer,
+        " refusals {refusals} reaps {reaps} connections {connections}"
+    )
+}
+
+/// Writes the totals and how many connections were accepted, in a line.
+pub(crate) fn write_open_totals<W: Write>(
+    writer: &mut W,
+    totals: Totals,
+    connections: u64,
+) -> io::Result<()>
+    ensures { OnOk result
+        (Appends (W.contents writer.old) (W.contents writer.new) (open_line totals connections)) }
+{
+    write_commands(writer, totals)?;
+    write_open(writer, totals, connections)
 }
 
 /// Logs where some vnode's tally counts other than its history has entries, since then the laws of the register don't speak of this run; writes the

@@ -1,5 +1,5 @@
-use Rattle.std.proofs.Common.{◌≡◌, ◌≤◌, ◌∙◌, ℕ, List, [], map, refl, ap, subst, sym, None, Some}
-use Rattle.std.specs.Prelude.{IfSome, Vec}
+use Rattle.std.proofs.Common.{◌≤◌, ◌∙◌, ℕ, map, refl, ap, subst, sym, None, Some}
+use Rattle.std.specs.Prelude.{IfSome}
 use Rattle.std.proofs.lemmas.Result.{IfOk-weaker}
 use Rattle.session_pool.specs.Telling.{TellsSource}
 use Rattle.socket_streams.specs.Arriving.{ArrivalsView}

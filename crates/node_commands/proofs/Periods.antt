@@ -1,0 +1,202 @@
+-- A server that is paused and goes on.
+use Rattle.std.proofs.Common.{◌≡◌, ◌∙◌, ℕ, ◌+◌, ◌-◌, ◌≤◌, true, None, Some, List, [], ◌∷◌, ◌++◌, length, map, refl, ap, sym, subst, arith}
+use Rattle.std.proofs.lemmas.List.Elements.{All-cons, All-head, All-nil}
+use Rattle.std.specs.List.{AllZip}
+use Rattle.std.specs.Prelude.{Option, IfSome}
+use Rattle.std.specs.Option.{option_map}
+use mathlib.Core.Logic.{inl, inr}
+use Rattle.job_pool.specs.Lists.{Every, concat}
+use Rattle.gate_node.specs.Gates.{Gates}
+use Rattle.gate_node.specs.Merging.{HaveSeenAllOf}
+use Rattle.gate_node.specs.OneHistory.{IsSeen, ShareHistories}
+use Rattle.gate_node.specs.Passes.{Sights, ArePassesOf}
+use Rattle.gate_node.specs.Tallies.{GateHistory}
+use Rattle.gate_node.proofs.Histories.{each_seen}
+use Rattle.session_pool.specs.declared.served.Served.{Served}
+use Rattle.session_pool.specs.Resuming.{IsLater, IsOnceDiverted}
+use Rattle.session_pool.specs.Suspending.{CanGoOn, SuspendedView}
+use Rattle.session_pool.specs.Telling.{RestedSession, IsRestedSession, TellsAll, TellsSource, now_of}
+use Rattle.session_pool.proofs.Resuming.{later_on, later_to, passes_later}
+use Rattle.session_pool.proofs.Tellers.{seen_less, seen_same, seen_through}
+use Rattle.socket_streams.specs.declared.halves.RequestHalf.{RequestHalf}
+use Rattle.socket_streams.specs.declared.halves.ReplyHalf.{ReplyHalf}
+use Rattle.socket_streams.specs.Arriving.{ArrivalsView}
+use Rattle.socket_streams.specs.Sessions.{SessionsView, GivesSession, begun_by, in_turn}
+use Rattle.socket_streams.proofs.Resting.{gave_sessions}
+use Rattle.node_commands.specs.declared.controlled.Controlled.{Controlled}
+use Rattle.node_commands.specs.declared.period.Before.{Before}
+use Rattle.node_commands.specs.declared.progress.Progress.{Progress}
+use Rattle.node_commands.specs.declared.progress.Paused.{Paused}
+use Rattle.node_commands.specs.declared.until.UntilSettings.{UntilSettings}
+use Rattle.node_commands.specs.Runs.{IsNewRun, ToldConnections, replies_of}
+use Rattle.node_commands.specs.Periods.{AddsUp, AllTellIn, CanServe, GoesThrough, HasRun, HasServed, IsControlled, IsNew, IsReady, Moves, rested_in}
+use Rattle.node_commands.proofs.Begun.{every_at}
+use Rattle.node_commands.proofs.Sources.{gave_all, new_for}
+
+abbrev Session : Type 0
+Session = SuspendedView RequestHalf ReplyHalf
+
+-- a run of the pool over these gates, whose sessions may rest
+abbrev Told : Gates → SessionsView → Sights → Served RequestHalf ReplyHalf ToldConnections → SessionsView → Sights → Type 0
+Told gates first before served last seen = TellsSource (Unit {0}) (λ _. None) replies_of (λ (sink : ToldConnections). sink) gates GivesSession first before served last seen
+
+-- a listener's connections, of which none has come
+abbrev pub new_source : Gates → Option ℕ → ArrivalsView
+new_source gates limit = record { gates = gates; limit = limit; counts_refused = true; can_stop = true; given = 0; refused = 0 }
+
+-- what a period came to: the sessions were those that rested and one for each of these connections
+pub has_served : (gates : Gates) (old new : Progress) (before : Before) (first last : SessionsView) (served : Served RequestHalf ReplyHalf ToldConnections) (seen : Sights) (accepted away : ℕ)
+    → before ≡ record { totals = old.totals; connections = old.connections; closed = old.closed }
+    → first.rested ≡ in_turn (rested_in old) → (limit : Option ℕ) → first.source ≡ new_source gates limit
+    → Told gates first old.seen served last seen → accepted ≡ last.source.given + last.source.refused → away ≡ last.source.refused
+    → AddsUp before served accepted away seen new → HasServed gates old new
+has_served gates old new before first last served seen accepted away was rested limit source told count closed adds =
+    let same : first.source.gates ≡ gates = ap (λ (s : ArrivalsView). s.gates) source in
+    let none : first.source.given ≡ 0 = ap (λ (s : ArrivalsView). s.given) source in
+    let gave = gave_sessions first told.0 last told.1 in
+    let jobs = gave.jobs in
+    let sums = gave_all first.source jobs last.source gave.gave in
+    let given : told.0 ≡ in_turn (rested_in old) ++ map (begun_by gates) jobs =
+    gave.are ∙ ap (λ (sessions : List Session). sessions ++ map (begun_by first.source.gates) jobs) rested ∙ ap (λ (g : Gates). in_turn (rested_in old) ++ map (begun_by g) jobs) same in
+    let all = subst (λ (sessions : List Session). TellsAll (Unit {0}) (λ _. None) replies_of (λ (sink : ToldConnections). sink) gates sessions old.seen served seen) given told.2 in
+    let many : last.source.given ≡ first.source.given + length jobs = sums.1 in
+    let connections : new.connections ≡ before.connections + accepted = adds.connections in
+    let from : before.connections ≡ old.connections = ap (λ (b : Before). b.connections) was in
+    record {
+      jobs = jobs;
+      fresh = new_for first.source gates same jobs last.source gave.gave;
+      served = served;
+      told = subst (λ (sights : Sights). TellsAll (Unit {0}) (λ _. None) replies_of (λ (sink : ToldConnections). sink) gates (in_turn (rested_in old) ++ map (begun_by gates) jobs) old.seen served sights) (sym adds.seen_is) all;
+      rested = adds.rested;
+      totals = subst (λ (b : Before). new.totals ≡ Rattle.stats_book.specs.Counting.both b.totals served.totals) was adds.totals;
+      away = away;
+      closed = adds.closed ∙ ap (λ (b : Before). b.closed + away) was;
+      connections = omega (arith, many, connections, from, count, closed, none);
+    }
+
+-- those that rest behind a run of the pool may go on over its gates
+each_may : (gates : Gates) (given : List Session) (rested : List (RestedSession RequestHalf ReplyHalf)) → Every (IsRestedSession (λ _. None) replies_of gates given (Unit {0})) rested → Every (CanGoOn gates) (map now_of rested)
+each_may gates given [] h = tt
+each_may gates given (one ∷ rested) h = (record { later = later_to one.now.over gates h.0.rests.over; room = h.0.rests.room refl }, each_may gates given rested h.1)
+
+pub is_ready : (gates : Gates) (first last : SessionsView) (before : Before) (old : Sights) (served : Served RequestHalf ReplyHalf ToldConnections) (seen : Sights) (accepted away : ℕ) (new : Progress)
+    → Told gates first old served last seen → ArePassesOf gates seen → AddsUp before served accepted away seen new → IsReady gates new
+is_ready gates first last before old served seen accepted away new told passes adds = record {
+  rested = subst (λ resting. Every (CanGoOn gates) (concat (map (λ one. one.items) resting.items))) (sym adds.rested) (subst (Every (CanGoOn gates)) told.2.rests (each_may gates told.0 told.2.rested told.2.each_rests));
+  passes = subst (ArePassesOf gates) (sym adds.seen_is) passes;
+}
+
+-- no more than are to be were accepted, where no more came than were left
+within_left : (limit left : Option ℕ) (old accepted new : ℕ) → left ≡ option_map (λ most. most - old) limit → IfSome limit (λ most. old ≤ most) → IfSome left (λ most. accepted ≤ most) → new ≡ old + accepted → IfSome limit (λ most. new ≤ most)
+within_left None left old accepted new is before few sum = tt
+within_left (Some most) left old accepted new is before few sum =
+    let few' : accepted ≤ most - old = subst (λ o. IfSome o (λ n. accepted ≤ n)) is few in
+    omega (arith, before, few', sum)
+
+-- so behind a run of the pool
+pub still_within : (gates : Gates) (old : Progress) (first last : SessionsView) (served : Served RequestHalf ReplyHalf ToldConnections) (seen : Sights) (limit left : Option ℕ) (accepted new : ℕ)
+    → first.source ≡ new_source gates left → Told gates first old.seen served last seen → left ≡ option_map (λ most. most - old.connections) limit → IfSome limit (λ most. old.connections ≤ most)
+    → IfSome last.source.limit (λ most. accepted ≤ most) → new ≡ old.connections + accepted → IfSome limit (λ most. new ≤ most)
+still_within gates old first last served seen limit left accepted new source told is before few sum =
+    let gave = gave_sessions first told.0 last told.1 in
+    let same = (gave_all first.source gave.jobs last.source gave.gave).0 in
+    within_left limit last.source.limit old.connections accepted new (same.limit ∙ ap (λ (s : ArrivalsView). s.limit) source ∙ is) before few sum
+
+-- one move further
+goes_on : (first : Paused) (path : List Paused) (last next : Paused) → GoesThrough first path last → Moves last next → GoesThrough first (path ++ next ∷ []) next
+goes_on first [] last next same move = (subst (λ (from : Paused). Moves from next) same move, refl)
+goes_on first (one ∷ path) last next goes move = (goes.0, goes_on one path last next goes.1 move)
+
+run_on : (settings : UntilSettings) (last next : Paused) → HasRun settings last → Moves last next → HasRun settings next
+run_on settings last next run move = record {
+  first = run.first;
+  of_run = run.of_run;
+  begins = run.begins;
+  path = run.path ++ next ∷ [];
+  goes = goes_on run.first run.path last next run.goes move;
+}
+
+-- behind a period a server may go on
+pub serves_on : (settings : UntilSettings) (last next : Paused) → CanServe settings last → next.shared ≡ last.shared → HasServed last.shared last.progress next.progress → IsReady next.shared next.progress
+    → IfSome settings.connections (λ limit. next.progress.connections ≤ limit) → CanServe settings next
+serves_on settings last next can same served ready limit = record {
+  run = run_on settings last next can.run (inl (same, served));
+  ready = ready;
+  budget = can.budget ∙ sym (ap (λ (g : Gates). g.budget) same);
+  limit = limit;
+}
+
+-- what may go on over gates may go on once a partition was diverted
+go_later : (old new : Gates) → IsLater old new → (sessions : List Session) → Every (CanGoOn old) sessions → Every (CanGoOn new) sessions
+go_later old new later [] may = tt
+go_later old new later (session ∷ sessions) may =
+    (record { later = later_on session.over old new may.0.later later; room = may.0.room }, go_later old new later sessions may.1)
+
+pub diverts : (settings : UntilSettings) (last next : Paused) (index : ℕ) → CanServe settings last → IsOnceDiverted index last.shared next.shared → next.progress ≡ last.progress → CanServe settings next
+diverts settings last next index can diverted same =
+    let later : IsLater last.shared next.shared = (index ∷ [], (next.shared, diverted, refl)) in
+    record {
+      run = run_on settings last next can.run (inr (same, index, diverted));
+      ready = record {
+        rested = subst (λ (p : Progress). Every (CanGoOn next.shared) (concat (rested_in p))) (sym same) (go_later last.shared next.shared later (concat (rested_in last.progress)) can.ready.rested);
+        passes = subst (λ (p : Progress). ArePassesOf next.shared p.seen) (sym same) (passes_later last.shared next.shared last.progress.seen later can.ready.passes);
+      };
+      budget = can.budget ∙ sym diverted.budget;
+      limit = subst (λ (p : Progress). IfSome settings.connections (λ limit. p.connections ≤ limit)) (sym same) can.limit;
+    }
+
+none_more : (limit : Option ℕ) (n : ℕ) → n ≡ 0 → IfSome limit (λ most. n ≤ most)
+none_more None n none = tt
+none_more (Some most) n none = omega (arith, none)
+
+-- a server whose workers haven't begun may
+pub begins : (settings : UntilSettings) (first : Paused) → IsNewRun settings.ring settings.run settings.sweep first.shared → IsNew first.shared first.progress → CanServe settings first
+begins settings first of_run is = record {
+  run = record { first = first; of_run = of_run; begins = is; path = []; goes = refl };
+  ready = record { rested = subst (λ lists. Every (CanGoOn first.shared) (concat (map (λ one. one.items) lists))) (sym is.none) tt; passes = is.passes };
+  budget = sym of_run.budget;
+  limit = none_more settings.connections first.progress.connections is.unaccepted;
+}
+
+-- what a server had seen it has seen later on, and its passes are of the same gates
+seen_on : (first : Paused) (path : List Paused) (last : Paused) → GoesThrough first path last → HaveSeenAllOf last.progress.seen first.progress.seen
+seen_on first [] last same = subst (λ (p : Paused). HaveSeenAllOf p.progress.seen first.progress.seen) (sym same) (seen_same first.progress.seen.primaries)
+seen_on first (next ∷ path) last (inl (same, served), goes) =
+    seen_through last.progress.seen.primaries next.progress.seen.primaries first.progress.seen.primaries (seen_on next path last goes) served.told.seen_on
+seen_on first (next ∷ path) last (inr (same, index, diverted), goes) =
+    subst (λ (p : Progress). HaveSeenAllOf last.progress.seen p.seen) same (seen_on next path last goes)
+
+-- so what ended in whatever period is by steps in histories of which the last passes have seen beginnings
+all_tell : (histories : List GateHistory) (first : Paused) (path : List Paused) (last : Paused) (goes : GoesThrough first path last) → AllZip IsSeen histories last.progress.seen.primaries → AllTellIn histories first path last goes
+all_tell histories first [] last goes saw = tt
+all_tell histories first (next ∷ path) last (inl (same, served), goes) saw =
+    let saw_then = seen_less histories last.progress.seen.primaries next.progress.seen.primaries saw (seen_on next path last goes) in
+    (every_at histories first.shared (in_turn (rested_in first.progress) ++ map (begun_by first.shared) served.jobs) next.progress.seen saw_then served.told.ended served.told.each, all_tell histories next path last goes saw)
+all_tell histories first (next ∷ path) last (inr (same, index, diverted), goes) saw = (tt, all_tell histories next path last goes saw)
+
+-- what came of a server that ended so, with tallies of what its passes have seen
+pub is_controlled : (settings : UntilSettings) (last : Paused) (outcome : Controlled) → CanServe settings last
+    → ShareHistories (λ (s : Sights). s) last.shared.gates (last.progress.seen ∷ []) outcome.tallies.tallies.items outcome.tallies.count_all
+    → outcome.totals ≡ last.progress.totals → outcome.connections ≡ last.progress.connections → outcome.closed ≡ last.progress.closed → IsControlled settings outcome
+is_controlled settings last outcome can history totals connections closed =
+    let run = can.run in
+    let seen = last.progress.seen in
+    let Kept : Sights → Type 0 = λ sights. ArePassesOf last.shared sights in
+    let callers = All-cons Kept seen [] can.ready.passes (All-nil Kept) in
+    let saw = All-head (λ (sights : Sights). AllZip IsSeen history.histories sights.primaries) seen [] (each_seen (λ (s : Sights). s) last.shared history.histories history.of_gates (seen ∷ []) callers history.seen) in
+    record {
+      last = last;
+      run = run;
+      limit = can.limit;
+      history = history;
+      positions = all_tell history.histories run.first run.path last run.goes saw;
+      totals = totals;
+      connections = connections;
+      closed = closed;
+    }
+
+-- a server that wasn't changed may go on as before
+pub stays : (settings : UntilSettings) (last next : Paused) → CanServe settings last → next.shared ≡ last.shared → next.progress ≡ last.progress → CanServe settings next
+stays settings last next can same progress =
+    subst (λ (gates : Gates). CanServe settings (record { shared = gates; progress = next.progress })) (sym same)
+    (subst (λ (p : Progress). CanServe settings (record { shared = last.shared; progress = p })) (sym progress) can)

@@ -1,0 +1,13 @@
+use Rattle.std.proofs.Common.{refl}
+use Rattle.node_commands.specs.declared.controlled.Controlled.{Controlled}
+use Rattle.node_commands.proofs.Periods.{is_controlled}
+use Rattle.node_commands.proofs.controlled.conclude.Goals as goal
+
+pub tallies-requires : goal.tallies-requires
+tallies-requires g c = c.requires.ready.passes
+
+pub returns-in-Ok : goal.returns-in-Ok
+returns-in-Ok g c =
+    let last = c.args.paused.now in
+    let outcome : Controlled = record { totals = last.progress.totals; tallies = c.in-Ok.tallies; connections = last.progress.connections; closed = last.progress.closed } in
+    is_controlled c.args.settings.now last outcome c.requires c.in-Ok.ensures refl refl refl

@@ -1,0 +1,110 @@
+-- What a server comes to that is paused and goes on.
+use Rattle.std.specs.Prelude.{◌≡◌, ◌+◌, ◌≤◌, ◌⊎◌, ◌++◌, ℕ, List, [], ◌∷◌, None, IfSome, length, map}
+use mathlib.Core.Logic.{inl, inr}
+use Rattle.job_pool.specs.Lists.{Every, concat}
+use Rattle.stats_book.specs.Counting.{both, zeros}
+use Rattle.gate_node.specs.Gates.{Gates}
+use Rattle.gate_node.specs.OneHistory.{ShareHistories}
+use Rattle.gate_node.specs.Passes.{Sights, ArePassesOf, AreUnused}
+use Rattle.gate_node.specs.Tallies.{GateHistory}
+use Rattle.worker_pool.specs.declared.job.Job.{Job}
+use Rattle.session_pool.specs.declared.served.Served.{Served}
+use Rattle.session_pool.specs.Resuming.{IsOnceDiverted}
+use Rattle.session_pool.specs.Suspending.{CanGoOn, SuspendedView}
+use Rattle.session_pool.specs.Telling.{TellsAll}
+use Rattle.socket_streams.specs.declared.halves.RequestHalf.{RequestHalf}
+use Rattle.socket_streams.specs.declared.halves.ReplyHalf.{ReplyHalf}
+use Rattle.socket_streams.specs.Arriving.{IsNewConnection}
+use Rattle.socket_streams.specs.Sessions.{begun_by, in_turn}
+use Rattle.node_commands.specs.declared.controlled.Controlled.{Controlled}
+use Rattle.node_commands.specs.declared.period.Before.{Before}
+use Rattle.node_commands.specs.declared.progress.Progress.{Progress}
+use Rattle.node_commands.specs.declared.progress.Paused.{Paused}
+use Rattle.node_commands.specs.declared.until.UntilSettings.{UntilSettings}
+use Rattle.node_commands.specs.Runs.{IsAtPositions, IsNewRun, ToldConnections, replies_of}
+
+-- the sessions that rest, of each worker
+abbrev pub rested_in : Progress → List (List (SuspendedView RequestHalf ReplyHalf))
+rested_in progress = map (λ one. one.items) progress.rested.items
+
+-- no session has begun over these gates
+pub record IsNew (gates : Gates) (progress : Progress) : Type 0 where
+  pub none : progress.rested.items ≡ []
+  pub passes : ArePassesOf gates progress.seen
+  pub unused : AreUnused progress.seen
+  pub uncounted : progress.totals ≡ zeros
+  pub unaccepted : progress.connections ≡ 0
+  pub unclosed : progress.closed ≡ 0
+
+-- each session that rests may go on over these gates, and what was seen was seen of them
+pub record IsReady (gates : Gates) (progress : Progress) : Type 0 where
+  pub rested : Every (CanGoOn gates) (concat (rested_in progress))
+  pub passes : ArePassesOf gates progress.seen
+
+-- The workers served over these gates until they were paused or there were no more sessions: those that rested, and then one for each of these
+-- new connections. Each was told, rests or was refused, once, as a run of the pool says; and what was counted came to what had been.
+pub record HasServed (gates : Gates) (old new : Progress) : Type 0 where
+  pub jobs : List (Job RequestHalf ReplyHalf)
+  pub fresh : Every (IsNewConnection gates) jobs
+  pub served : Served RequestHalf ReplyHalf ToldConnections
+  pub told : TellsAll (Unit {0}) (λ _. None) replies_of (λ sink. sink) gates (in_turn (rested_in old) ++ map (begun_by gates) jobs) old.seen served new.seen
+  pub rested : new.rested ≡ served.resting
+  pub totals : new.totals ≡ both old.totals served.totals
+  pub away : ℕ
+  pub closed : new.closed ≡ old.closed + away
+  pub connections : new.connections ≡ old.connections + (length jobs + away)
+
+-- what the workers have come to behind a run of the pool, in which so many connections were accepted and so many closed, where so much was counted before
+pub record AddsUp (before : Before) (served : Served RequestHalf ReplyHalf ToldConnections) (accepted away : ℕ) (seen : Sights) (progress : Progress) : Type 0 where
+  pub rested : progress.rested ≡ served.resting
+  pub seen_is : progress.seen ≡ seen
+  pub totals : progress.totals ≡ both before.totals served.totals
+  pub connections : progress.connections ≡ before.connections + accepted
+  pub closed : progress.closed ≡ before.closed + away
+
+-- its workers served, or a partition was diverted while they were paused
+abbrev pub Moves : Paused → Paused → Type 0
+Moves old new = ((new.shared ≡ old.shared) × HasServed old.shared old.progress new.progress)
+    ⊎ ((new.progress ≡ old.progress) × (index : ℕ) × IsOnceDiverted index old.shared new.shared)
+
+-- it went on so, through these states
+abbrev pub GoesThrough : Paused → List Paused → Paused → Type 0
+GoesThrough first [] last = last ≡ first
+GoesThrough first (next ∷ path) last = Moves first next × GoesThrough next path last
+
+-- from a new run by these settings on, whose workers hadn't begun
+pub record HasRun (settings : UntilSettings) (last : Paused) : Type 0 where
+  pub first : Paused
+  pub of_run : IsNewRun settings.ring settings.run settings.sweep first.shared
+  pub begins : IsNew first.shared first.progress
+  pub path : List Paused
+  pub goes : GoesThrough first path last
+
+-- it may go on, and no more connections were accepted than are to be
+pub record CanServe (settings : UntilSettings) (last : Paused) : Type 0 where
+  pub run : HasRun settings last
+  pub ready : IsReady last.shared last.progress
+  pub budget : settings.sweep ≡ last.shared.budget
+  pub limit : IfSome settings.connections (λ limit. last.progress.connections ≤ limit)
+
+-- in a period the sessions that ended are by steps in these histories
+abbrev pub TellsIn : List GateHistory → (old new : Paused) → Moves old new → Type 0
+TellsIn histories old new (inl (same, served)) = Every (IsAtPositions histories old.shared) served.told.ended
+TellsIn histories old new (inr diverted) = Unit {0}
+
+-- so in each of them
+abbrev pub AllTellIn : List GateHistory → (first : Paused) (path : List Paused) (last : Paused) → GoesThrough first path last → Type 0
+AllTellIn histories first [] last goes = Unit {0}
+AllTellIn histories first (next ∷ path) last goes = TellsIn histories first next goes.0 × AllTellIn histories next path last goes.1
+
+-- What came of a server. The totals are what all sessions counted, and the tallies are those of one history of each primary's vnode through all of it: each
+-- reply at a primary of each session that ended, in whatever period, is at a position of that.
+pub record IsControlled (settings : UntilSettings) (outcome : Controlled) : Type 0 where
+  pub last : Paused
+  pub run : HasRun settings last
+  pub limit : IfSome settings.connections (λ limit. last.progress.connections ≤ limit)
+  pub history : ShareHistories (λ (sights : Sights). sights) last.shared.gates (last.progress.seen ∷ []) outcome.tallies.tallies.items outcome.tallies.count_all
+  pub positions : AllTellIn history.histories run.first run.path last run.goes
+  pub totals : outcome.totals ≡ last.progress.totals
+  pub connections : outcome.connections ≡ last.progress.connections
+  pub closed : outcome.closed ≡ last.progress.closed

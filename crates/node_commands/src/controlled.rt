@@ -1,0 +1,232 @@
+//! Serving while an operator says what is to be done.
+
+ghost use Rattle.std.specs.Prelude.{◌≡◌, ◌<◌, ◌≤◌, ◌^◌, ◌∷◌, [], IfOk, true};
+ghost use Rattle.gate_node.specs.OneHistory.{ShareHistories};
+ghost use Rattle.gate_node.specs.Passes.{ArePassesOf, Sights};
+ghost use Rattle.node_commands.specs.Periods.{CanServe, IsControlled};
+ghost use Rattle.node_commands.specs.declared.console.Told.TheVariants as tolds;
+
+use crate::console::{Asked, Console, Told, announce, refusal_of};
+use crate::fault::ServeFault;
+use crate::gates::new_shared;
+use crate::lines::report;
+use crate::period::{Period, serve_on};
+use crate::progress::Paused;
+use crate::until::UntilSettings;
+use control_text::{Answer, Refusal};
+use gate_node::{RunTallies, tallies_of};
+use log::Log;
+use stats_book::Totals;
+use std::alloc::Global;
+use std::io::{Read, Write};
+use std::net::{Net, TcpListener};
+use std::rt::Clock;
+use std::slice;
+use std::sync::Wait;
+use std::thread::Threads;
+
+/// What came of a server with a console.
+#[derive(Drop)]
+pub struct Controlled {
+    /// What all sessions counted.
+    pub totals: Totals,
+    /// The tally of each vnode that is a primary, of all that the sessions saw of it, in the order of the partitions.
+    pub tallies: RunTallies,
+    /// How many connections were accepted.
+    pub connections: u64,
+    /// How many of them were closed before they came to a worker, for want of memory.
+    pub closed: u64,
+}
+
+/// Whether serving ends that was paused or stopped for this.
+fn is_end(asked: Asked) -> bool {
+    match asked {
+        Asked::Nothing | Asked::Stop => true,
+        Asked::Totals | Asked::Divert(_) => false,
+    }
+}
+
+/// Whether a server has a partition of this index.
+fn has_partition(paused: &Paused, partition: u16) -> bool
+    ensures { result ≡ true → partition < 2 ^ paused.now.shared.index_bits }
+{
+    usize::from(partition) < paused.shared.gates().len()
+}
+
+/// A paused server with this partition diverted, where it has it and that can be done, and what is answered.
+fn divert(
+    alloc: Global,
+    paused: Paused,
+    settings: &UntilSettings,
+    partition: u16,
+) -> (Paused, Answer)
+    requires { CanServe settings.now paused }
+    ensures { CanServe settings.now result.0 }
+{
+    if !has_partition(&paused, partition) {
+        return (paused, Answer::Refused(Refusal::NoPartition(partition)));
+    }
+    let (paused, diverted) = paused.divert(alloc, partition, settings.sweep);
+    match diverted {
+        Ok(()) => (paused, Answer::Diverted(partition)),
+        Err(fault) => (paused, Answer::Refused(refusal_of(partition, &fault))),
+    }
+}
+
+/// What the operator is told of the totals of a paused server.
+fn totals_of(paused: &Paused) -> Told
+    ensures { result ≡ tolds.Totals paused.now.progress.totals paused.now.progress.connections }
+{
+    Told::Totals(paused.progress.totals, paused.progress.connections)
+}
+
+/// Does what a server was paused for, lets go what was kept back for that, and keeps what the operator is told of that.
+fn heed<I: Read, O: Write>(
+    alloc: Global,
+    paused: Paused,
+    settings: &UntilSettings,
+    console: &mut Console<I, O>,
+    asked: Asked,
+) -> Paused
+    requires { CanServe settings.now paused }
+    ensures { CanServe settings.now result }
+{
+    console.make_way();
+    match asked {
+        Asked::Divert(partition) => {
+            let (paused, answer) = divert(alloc, paused, settings, partition);
+            console.keep(Told::Answer(answer));
+            paused
+        }
+        Asked::Totals => {
+            console.keep(totals_of(&paused));
+            paused
+        }
+        Asked::Nothing | Asked::Stop => paused,
+    }
+}
+
+/// Serves, one period behind another, until it is stopped or has ended by itself.
+fn serve_periods<T, I, O>(
+    rt: &T,
+    alloc: Global,
+    listener: &TcpListener,
+    paused: Paused,
+    settings: &UntilSettings,
+    console: Console<I, O>,
+) -> Result<(Paused, Console<I, O>), ServeFault>
+where
+    T: Log + Clock + Net + Threads + Wait + Sync,
+    I: Read + Send + Drop,
+    O: Write + Send + Drop,
+    requires workers { (1 ≤ settings.now.workers) × (settings.now.workers ≤ 64) }
+    requires begins { CanServe settings.now paused }
+    ensures { IfOk result (λ left. CanServe settings.now left.0) }
+{
+    let mut paused = paused;
+    let mut console = console;
+    for _ in rt.forever() {
+        let Period {
+            paused: left,
+            console: mut theirs,
+            asked,
+        } = serve_on(rt, alloc, listener, paused, settings, console)?;
+        if is_end(asked) {
+            return Ok((left, theirs));
+        }
+        paused = heed(alloc, left, settings, &mut theirs, asked);
+        console = theirs;
+    }
+    unreachable!()
+}
+
+/// The tallies of a server's vnodes.
+fn tallies<X: Wait>(rt: &X, alloc: Global, paused: &Paused) -> Result<RunTallies, ServeFault>
+    requires { ArePassesOf paused.now.shared paused.now.progress.seen }
+    ensures { IfOk result (λ found. ShareHistories (λ (s : Sights). s) paused.now.shared.gates
+        (paused.now.progress.seen ∷ []) found.tallies.items found.count_all) }
+{
+    let callers = slice::from_ref(&paused.progress.seen);
+    match tallies_of(rt, alloc, &paused.shared, callers) {
+        Ok(tallies) => Ok(tallies),
+        Err(_) => Err(ServeFault::NoMemory),
+    }
+}
+
+/// What came of a server, with the tallies of its vnodes.
+fn conclude<X: Wait>(
+    rt: &X,
+    alloc: Global,
+    paused: &Paused,
+    settings: &UntilSettings,
+) -> Result<Controlled, ServeFault>
+    requires { CanServe settings.now paused.now }
+    ensures { IfOk result (IsControlled settings.now) }
+{
+    // what is asked and what is said name the settings
+    let _settings = settings;
+    match tallies(rt, alloc, paused) {
+        Ok(tallies) => Ok(Controlled {
+            totals: paused.progress.totals,
+            tallies,
+            connections: paused.progress.connections,
+            closed: paused.progress.closed,
+        }),
+        Err(fault) => Err(fault),
+    }
+}
+
+/// Serves the connections of a listener as [`serve_on_until`](crate::serve_on_until) does, over the gates of a new run, while an operator says line by line
+/// what is to be done (`control_text` has the commands and the answers).
+///
+/// It writes `listening ADDRESS` before the first connection is accepted, one line for each line that it reads, and the totals at the end:
+///
+/// - `totals`: what all sessions have counted, and how many connections were accepted, at one moment. For that the workers are paused.
+/// - `divert P`: the calls of partition P are for a fallback from then on. For that the workers are paused. Refused where there is no such partition, where it
+///   is diverted, and where memory is refused.
+/// - `copy P B`: at most B keys of its fallback are copied back to its primary, while calls go on.
+/// - `return P`: its calls are for the primary again, where all keys are copied as they are then, while calls go on.
+/// - `stop`, or the end of the input: all connections are ended, and then the call returns.
+///
+/// A line that asks for none of these, or is longer than 64 bytes, is refused. One without its line feed isn't obeyed. A line that can't be written is passed over,
+/// and one that nobody reads holds up the operator alone. It returns too once as many connections were accepted as are to be and all of them have ended.
+///
+/// Where the workers are paused each lays its sessions down, between two of their steps: no connection is closed, nothing that came over it is lost, nor anything
+/// that is to be sent. Then they go on. Sockets that are kept open for late bytes alone, behind a refused frame, are closed then, and the time for which
+/// connections have been silent is counted anew.
+///
+/// So that the workers can be started again where they had filled all memory, a MiB is kept back between pauses; where it can't be had, `totals` and `divert`
+/// are refused with `no memory`. Where they can't be started for want of a thread or a descriptor, serving ends with that fault.
+pub fn serve_controlled<T, I, O>(
+    rt: &T,
+    alloc: Global,
+    listener: TcpListener,
+    settings: &UntilSettings,
+    input: I,
+    mut output: O,
+) -> Result<Controlled, ServeFault>
+where
+    T: Log + Clock + Net + Threads + Wait + Sync,
+    I: Read + Send + Drop,
+    O: Write + Send + Drop,
+    requires workers { (1 ≤ settings.now.workers) × (settings.now.workers ≤ 64) }
+    requires run { 1 ≤ settings.now.run }
+
+    // From a new run on the workers served or a partition was diverted, one behind another. In each period every session that rested went on, and each
+    // connection that came had one begun; each of these ended, and its sink was told so, or rests, or was refused, once. What it wrote is what a session
+    // writes from its first read on, by a node over the gates as they were at each step. No more connections were accepted than were to be. There is one
+    // history of each primary's vnode through all periods, of which every session that is over has seen a beginning, with its tally.
+    ensures { IfOk result (IsControlled settings.now) }
+{
+    let Some(shared) = new_shared(alloc, settings.ring, settings.run, settings.sweep) else {
+        return Err(ServeFault::NoMemory);
+    };
+    let Some(paused) = Paused::new(alloc, shared) else {
+        return Err(ServeFault::NoMemory);
+    };
+    let _unheard = announce(&listener, &mut output);
+    let console = Console::new(input, output);
+    let (paused, mut console) = serve_periods(rt, alloc, &listener, paused, settings, console)?;
+    let _unheard = report(paused.progress.totals, console.output());
+    conclude(rt, alloc, &paused, settings)
+}

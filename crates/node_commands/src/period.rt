@@ -1,0 +1,256 @@
+//! A period of a server: its workers serve until they are paused, or there are no more connections.
+
+ghost use Rattle.std.specs.Prelude.{◌≡◌, ◌-◌, ◌≤◌, length, IfOk, IfSome};
+ghost use Rattle.std.specs.Option.{option_map};
+ghost use Rattle.node_commands.specs.Periods.{AddsUp, HasServed, IsReady};
+
+use crate::console::{Asked, Console};
+use crate::fault::{ServeFault, setup_fault};
+use crate::progress::{Paused, Progress, both};
+use crate::serving::serve_fault;
+use crate::until::UntilSettings;
+use gate_node::{Open, Passes, Shared};
+use log::Log;
+use session_pool::{Served, serve};
+use socket_streams::{
+    Arrivals, Limits, LogSink, ReplyHalf, RequestHalf, RunWaits, Sessions, Stop, new_run_waits,
+    new_seats,
+};
+use stats_book::Totals;
+use std::alloc::Global;
+use std::io::{Read, Write};
+use std::net::{Net, TcpListener};
+use std::rt::Clock;
+use std::sync::Wait;
+use std::sync::atomic::{AtomicBool, Ordering};
+use std::thread;
+use std::thread::Threads;
+
+/// How many connections may still be accepted.
+fn left_of(limit: Option<u64>, accepted: u64) -> Option<u64>
+    requires { IfSome limit (λ most. accepted ≤ most) }
+    ensures { result ≡ option_map (λ most. most - accepted) limit }
+{
+    match limit {
+        Some(most) => Some(most - accepted),
+        None => None,
+    }
+}
+
+/// What was counted before a period.
+#[derive(Clone, Copy)]
+pub struct Before {
+    pub totals: Totals,
+    pub connections: u64,
+    pub closed: u64,
+}
+
+/// What the workers have come to behind a period, in which so many connections were accepted and so many closed.
+fn lay_down<T>(
+    before: Before,
+    served: Served<RequestHalf, ReplyHalf, LogSink<'_, T>>,
+    connections: u64,
+    closed: u64,
+    seen: Passes,
+) -> Result<Progress, ServeFault>
+    ensures { IfOk result (AddsUp before served.entry connections closed seen) }
+{
+    let Served {
+        totals,
+        accepted: _,
+        refused: _,
+        sinks: _sinks,
+        resting,
+    } = served;
+    let (Some(totals), Some(connections), Some(closed)) = (
+        both(before.totals, totals),
+        before.connections.checked_add(connections),
+        before.closed.checked_add(closed),
+    ) else {
+        return Err(ServeFault::BookFull);
+    };
+    Ok(Progress {
+        rested: resting,
+        seen,
+        totals,
+        connections,
+        closed,
+    })
+}
+
+/// The workers serve the connections of a listener, and those whose sessions rest, until they are paused or stopped, or as many were accepted as are to be
+/// and have ended.
+fn serve_period<T>(
+    rt: &T,
+    alloc: Global,
+    listener: &TcpListener,
+    shared: &Shared,
+    progress: Progress,
+    settings: &UntilSettings,
+    stop: &Stop,
+    waits: RunWaits,
+) -> Result<Progress, ServeFault>
+where
+    T: Log + Clock + Net + Threads + Wait + Sync,
+    requires workers { (1 ≤ length waits.workers.items) × (length waits.workers.items ≤ 64) }
+    requires ready { IsReady shared.now progress }
+    requires limit { IfSome settings.now.connections (λ limit. progress.connections ≤ limit) }
+    ensures served { IfOk result (HasServed shared.now progress) }
+    ensures ready { IfOk result (IsReady shared.now) }
+    ensures limit { IfOk result (λ later.
+        IfSome settings.now.connections (λ limit. later.connections ≤ limit)) }
+{
+    let RunWaits { accepting, workers } = waits;
+    let Ok(seats) = new_seats(rt, alloc, stop, workers, settings.idle_seconds) else {
+        return Err(ServeFault::NoMemory);
+    };
+    let Progress {
+        rested,
+        mut seen,
+        totals,
+        connections,
+        closed,
+    } = progress;
+    let limits = Limits {
+        connections: left_of(settings.connections, connections),
+        counts_refused: true,
+        can_stop: true,
+        tries: None,
+    };
+    let arrivals = match Arrivals::new(rt, alloc, listener, accepting, shared, stop, limits) {
+        Ok(arrivals) => arrivals,
+        Err(error) => return Err(setup_fault(&error)),
+    };
+    let before = Before {
+        totals,
+        connections,
+        closed,
+    };
+    let mut sessions = Sessions::new(alloc, arrivals, rested);
+    match serve(
+        rt,
+        alloc,
+        shared,
+        &mut sessions,
+        seats,
+        &Open,
+        stop,
+        &mut seen,
+    ) {
+        Ok(served) => {
+            let (accepted, away) = (sessions.accepted(), sessions.refused());
+            lay_down(before, served, accepted, away, seen)
+        }
+        Err(fault) => Err(serve_fault(fault, ServeFault::AcceptFailed)),
+    }
+}
+
+/// What a period comes to.
+#[derive(Drop)]
+pub(crate) struct Period<I, O> {
+    pub(crate) paused: Paused,
+    pub(crate) console: Console<I, O>,
+    /// What it was paused or stopped for.
+    pub(crate) asked: Asked,
+}
+
+/// A period while an operator is heard by a thread of its own, over these gates, with what the workers wait with and what pauses and stops them.
+fn serve_and_hear<T, I, O>(
+    rt: &T,
+    alloc: Global,
+    listener: &TcpListener,
+    shared: &Shared,
+    progress: Progress,
+    settings: &UntilSettings,
+    console: Console<I, O>,
+    stop: Stop,
+    waits: RunWaits,
+) -> Result<(Progress, Console<I, O>, Asked), ServeFault>
+where
+    T: Log + Clock + Net + Threads + Wait + Sync,
+    I: Read + Send + Drop,
+    O: Write + Send + Drop,
+    requires workers { (1 ≤ length waits.workers.items) × (length waits.workers.items ≤ 64) }
+    requires ready { IsReady shared.now progress }
+    requires limit { IfSome settings.now.connections (λ limit. progress.connections ≤ limit) }
+    ensures served { IfOk result (λ came. HasServed shared.now progress came.0) }
+    ensures ready { IfOk result (λ came. IsReady shared.now came.0) }
+    ensures limit { IfOk result (λ came.
+        IfSome settings.now.connections (λ limit. came.0.connections ≤ limit)) }
+{
+    let has_ended = AtomicBool::new(false);
+    thread::scope(
+        thread::scope_env(),
+        rt,
+        |scope| -> Result<(Progress, Console<I, O>, Asked), ServeFault>
+            requires workers { (1 ≤ length waits.workers.items) × (length waits.workers.items ≤ 64) }
+            requires ready { IsReady shared.now progress }
+            requires limit { IfSome settings.now.connections
+                (λ limit. progress.connections ≤ limit) }
+            ensures served { IfOk result (λ came. HasServed shared.entry.now progress came.0) }
+            ensures ready { IfOk result (λ came. IsReady shared.entry.now came.0) }
+            ensures limit { IfOk result (λ came.
+                IfSome settings.entry.now.connections (λ limit. came.0.connections ≤ limit)) }
+        {
+            let (stop, has_ended) = (&stop, &has_ended);
+            let hearing = scope.spawn(move || {
+                let mut console = console;
+                let asked = console.hear(rt, alloc, shared, stop, has_ended);
+                (console, asked)
+            });
+            let Ok(heard) = hearing else {
+                return Err(ServeFault::NoThread);
+            };
+            let served = serve_period(rt, alloc, listener, shared, progress, settings, stop, waits);
+            has_ended.store(true, Ordering::SeqCst);
+            let (console, asked) = heard.join(rt);
+            match served {
+                Ok(progress) => Ok((progress, console, asked)),
+                Err(fault) => Err(fault),
+            }
+        },
+    )
+}
+
+/// A period of a server that was paused, while its operator is heard.
+pub(crate) fn serve_on<T, I, O>(
+    rt: &T,
+    alloc: Global,
+    listener: &TcpListener,
+    paused: Paused,
+    settings: &UntilSettings,
+    console: Console<I, O>,
+) -> Result<Period<I, O>, ServeFault>
+where
+    T: Log + Clock + Net + Threads + Wait + Sync,
+    I: Read + Send + Drop,
+    O: Write + Send + Drop,
+    requires workers { (1 ≤ settings.now.workers) × (settings.now.workers ≤ 64) }
+    requires ready { IsReady paused.shared paused.progress }
+    requires limit { IfSome settings.now.connections
+        (λ limit. paused.progress.connections ≤ limit) }
+    ensures shared { IfOk result (λ period. period.paused.shared ≡ paused.shared) }
+    ensures served { IfOk result (λ period.
+        HasServed paused.shared paused.progress period.paused.progress) }
+    ensures ready { IfOk result (λ period.
+        IsReady period.paused.shared period.paused.progress) }
+    ensures limit { IfOk result (λ period. IfSome settings.now.connections
+        (λ limit. period.paused.progress.connections ≤ limit)) }
+{
+    let (waits, stop) = match new_run_waits(rt, alloc, settings.workers) {
+        Ok(made) => made,
+        Err(error) => return Err(setup_fault(&error)),
+    };
+    let Paused { shared, progress } = paused;
+    let came = serve_and_hear(
+        rt, alloc, listener, &shared, progress, settings, console, stop, waits,
+    );
+    match came {
+        Ok((progress, console, asked)) => Ok(Period {
+            paused: Paused { shared, progress },
+            console,
+            asked,
+        }),
+        Err(fault) => Err(fault),
+    }
+}
