@@ -2,6 +2,7 @@
 ghost use Rattle.std.specs.Prelude.{◌≤◌, IfSome};
 
 mod clients;
+mod controlled;
 mod heard;
 mod listener;
 mod served;
