@@ -67,6 +67,7 @@ module _ (found : Found) where
     pub port : IsNumber 0 65535 (codes "port") 8087 options.port
     pub ring : IsNumber 0 65535 (codes "ring") 64 options.ring
     pub until_eof : IsFlag (codes "until-eof") options.until_eof
+    pub control : IsFlag (codes "control") options.control
     pub serving : AreServingOptions options.serving
 
   pub record AreStepsOptions (options : StepsOptions) : Type 0 where

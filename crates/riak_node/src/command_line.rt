@@ -34,9 +34,14 @@ fn bare_serve<'a>(alloc: Global) -> clap::Command<'a> {
             "Writes two lines to standard output: the address, as in: listening 127.0.0.1:8087, before the first\n\
              connection, and what was done, as in: gets 2 puts 2 deletes 0 refusals 0 reaps 0, where it ends in order. The\n\
              log of the connections goes to standard error.\n\n\
-             Exit status: 0 at the end of standard input with --until-eof, and when all connections of --connections have\n\
-             ended, also those that failed; 1 where serving had to stop before, with one line on standard error, as in:\n\
-             riak_node: cannot listen; 2 for a command line that isn't one of these.\n\n\
+             With --control each line of standard input is a command, and is answered by one line between these two:\n\
+             totals, what was done so far, and how many connections came; divert P, calls of partition P, from 0, go to a\n\
+             fallback; copy P B, at most B of its keys are copied back, and whether some are left; return P, it is at its\n\
+             primary again; stop, serving ends in order. What can't be done is answered by why, as in: refused: no such\n\
+             command.\n\n\
+             Exit status: 0 at the end of standard input with --until-eof or --control, at stop, and when all connections\n\
+             of --connections have ended, also those that failed; 1 where serving had to stop before, with one line on\n\
+             standard error, as in: riak_node: cannot listen; 2 for a command line that isn't one of these.\n\n\
              Example: riak_node serve --workers 8 --idle 600",
         )
 }
@@ -48,6 +53,7 @@ fn serve<'a>(alloc: Global) -> Result<clap::Command<'a>, AllocError> {
         .arg(options::port(alloc))?
         .arg(options::idle(alloc))?
         .arg(options::until_eof(alloc))?
+        .arg(options::control(alloc))?
         .arg(options::connections(alloc))?
         .arg(options::workers(alloc))?
         .arg(options::ring(alloc, "64"))?

@@ -2,12 +2,17 @@
 //!
 //! `riak_node serve` serves connections, each a stream of requests of Riak's Protocol Buffers client API in frames, and their replies in
 //! frames. `riak_node pipe` serves standard input to standard output in the same way. `riak_node steps` plays a schedule of workers' steps,
-//! a line in and a line out.
+//! a line in and a line out. With `--control` an operator says on standard input what `serve` is to do.
 //!
 //! ```text
 //! $ riak_node serve --until-eof < /dev/tty
 //! listening 127.0.0.1:8087
 //! gets 2 puts 2 deletes 0 refusals 0 reaps 0
+//! $ printf 'divert 3\nreturn 3\n' | riak_node serve --control
+//! listening 127.0.0.1:8087
+//! diverted 3
+//! returned 3
+//! gets 0 puts 0 deletes 0 refusals 0 reaps 0
 //! $ printf '\0\0\0\1\1' | riak_node pipe | xxd -p      a ping
 //! 0000000102
 //! ```
@@ -20,7 +25,7 @@
 //! before the command line and the ring were found good.
 #![tactic(auto)]
 
-ghost use Rattle.std.specs.Prelude.{◌≡◌, is_some};
+ghost use Rattle.std.specs.Prelude.{◌≡◌};
 ghost use Rattle.std.specs.Process.{exit_status};
 ghost use Rattle.riak_node.specs.Conclusions.{status_of};
 
@@ -32,6 +37,7 @@ mod frame_counter;
 mod log_time;
 mod option_values;
 mod options;
+mod serving;
 mod subcommand;
 mod watch;
 mod watched_input;
@@ -42,10 +48,10 @@ use conclusion::Conclusion;
 use drained_console::DrainedConsole;
 use frame_counter::FrameCounter;
 use log::{Level, Log, Logged, warn};
-use node_commands::serve_as_asked;
 use node_session::SessionFault;
 use ring_map::Ring;
 use schedule_player::StepsFault;
+use serving::{ended, serve_by_options};
 use std::alloc::Global;
 use std::io;
 use std::io::{BufWriter, Read, Write};
@@ -57,7 +63,6 @@ use std::sync::Wait;
 use std::thread::Threads;
 use subcommand::{PipeOptions, ServeOptions, StepsOptions, Subcommand};
 use watch::STANDARD_ERROR;
-use watched_input::WatchedInput;
 
 /// Writes the line that a command ends with on standard error, and returns its status, which is the same where the line can't be written.
 fn conclude(rt: &HostRuntime, conclusion: Conclusion) -> ExitCode
@@ -140,46 +145,26 @@ fn listen<R: Log + Net<Listener = TcpListener, Stream = TcpStream>>(
     Some(listener)
 }
 
-/// What ends serving before its last connection: the end of standard input, where that is asked for.
-fn input_of<R: Net, I: Drop>(
-    net: &R,
-    alloc: Global,
-    until_eof: bool,
-    input: I,
-) -> Option<WatchedInput<I>>
-    ensures { is_some result ≡ until_eof }
-{
-    if until_eof {
-        Some(WatchedInput::new(net, alloc, input))
-    } else {
-        None
-    }
-}
-
-/// Serves the connections that come to this address and port, on this ring, until as many have ended as are asked for, or the input ends,
-/// where that is asked for.
-fn serve_all<R, W, I>(
+/// Serves the connections that come to this address and port, on this ring, as the options ask for.
+fn serve_all<R, I, O>(
     rt: &R,
     alloc: Global,
     ring: Ring,
     address: IpAddr,
     options: ServeOptions,
     input: I,
-    output: &mut W,
+    output: O,
 ) -> Conclusion
 where
     R: Log + Clock + Net<Listener = TcpListener, Stream = TcpStream> + Threads + Wait + Sync,
-    W: Write,
     I: Read + Send + Drop,
+    O: Write + Send + Drop,
 {
     let Some(listener) = listen(rt, address, options.port) else {
         return Conclusion::CannotListen;
     };
-    let until = input_of(rt, alloc, options.until_eof, input);
-    match serve_as_asked(rt, alloc, listener, ring, options.serving, until, output) {
-        Ok(_) => Conclusion::Served(Ok(())),
-        Err(fault) => Conclusion::Served(Err(fault)),
-    }
+    let outcome = serve_by_options(rt, alloc, listener, ring, options, input, output);
+    Conclusion::Served(ended(&outcome))
 }
 
 /// Plays a schedule from standard input to standard output, by a ring of the asked size if there is one.
@@ -207,8 +192,8 @@ fn main(rt: HostRuntime) -> ExitCode {
         Ok(Subcommand::Serve(options)) => match place_of(options) {
             Ok((ring, address)) => {
                 let logged = Logged::new(rt, Level::Info, DrainedConsole::new(rt, alloc));
-                let (input, mut output) = (rt.stdin(), rt.stdout());
-                serve_all(&logged, alloc, ring, address, options, input, &mut output)
+                let (input, output) = (rt.stdin(), rt.stdout());
+                serve_all(&logged, alloc, ring, address, options, input, output)
             }
             Err(end) => end,
         },

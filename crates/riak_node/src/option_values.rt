@@ -96,6 +96,7 @@ fn serve_options(found: &ArgMatches<'_>) -> ServeOptions
         port: small_number(found, "port", 8087),
         ring: small_number(found, "ring", 64),
         until_eof: found.get_flag("until-eof"),
+        control: found.get_flag("control"),
         serving: serving_options(found),
     }
 }

@@ -63,6 +63,16 @@ pub(crate) fn until_eof<'a>(alloc: Global) -> Arg<'a> {
         )
 }
 
+/// Whether standard input is an operator's console.
+pub(crate) fn control<'a>(alloc: Global) -> Arg<'a> {
+    Arg::new(alloc, "control")
+        .long("control")
+        .action(ArgAction::SetTrue)
+        .help(
+            "Take an operator's commands from standard input, one a line, and answer each by one line on standard output. The end of standard input is as stop, with --until-eof or without",
+        )
+}
+
 /// The port.
 pub(crate) fn port<'a>(alloc: Global) -> Arg<'a> {
     number(

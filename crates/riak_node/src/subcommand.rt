@@ -39,6 +39,8 @@ pub struct ServeOptions {
     pub ring: u16,
     /// Whether serving ends at the end of standard input.
     pub until_eof: bool,
+    /// Whether standard input is an operator's console.
+    pub control: bool,
     /// How they are served.
     pub serving: ServingOptions,
 }

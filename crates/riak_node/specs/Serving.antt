@@ -1,0 +1,20 @@
+-- What comes of serving as options ask for.
+use Rattle.std.specs.Prelude.{◌≡◌, ℕ, true, false, Some}
+use Rattle.node_commands.specs.Asked.{settings_of}
+use Rattle.node_commands.specs.Periods.{IsControlled}
+use Rattle.node_commands.specs.Runs.{IsServedUntil}
+use Rattle.node_commands.specs.declared.until.ServedUntil.{ServedUntil}
+use Rattle.riak_node.specs.declared.serving.ServeOutcome.{ServeOutcome}
+use Rattle.riak_node.specs.declared.serving.ServeOutcome.TheVariants.{Controlled, Asked}
+use Rattle.riak_node.specs.declared.subcommand.ServeOptions.{ServeOptions}
+
+-- connections were served without a console, over the gates of a run by these options, and as many as are asked for where nothing else could end that
+pub record IsServedWithout {T : Type 0} (options : ServeOptions) (ring : ℕ) (outcome : ServedUntil T) : Type 0 where
+  pub unasked : options.control ≡ false
+  pub served : IsServedUntil (settings_of options.serving ring) outcome
+  pub all : options.until_eof ≡ false → options.serving.connections ≡ Some outcome.connections
+
+-- what came of serving by these options, on this ring: by a console just where one is asked for
+abbrev pub IsServedAs : {T : Type 0} → ServeOptions → ℕ → ServeOutcome T → Type 0
+IsServedAs options ring (Controlled outcome) = (options.control ≡ true) × IsControlled (settings_of options.serving ring) outcome
+IsServedAs options ring (Asked outcome) = IsServedWithout options ring outcome
