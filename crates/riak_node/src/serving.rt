@@ -1,6 +1,6 @@
 //! Serving as the options of `serve` ask for: by an operator's console, or without one.
 
-ghost use Rattle.std.specs.Prelude.{◌≡◌, None, Err, false, IfErr, IfOk};
+ghost use Rattle.std.specs.Prelude.{◌≡◌, None, Err, false, is_some, IfErr, IfOk};
 ghost use Rattle.riak_node.specs.Serving.{IsServedAs};
 
 use crate::subcommand::ServeOptions;
@@ -40,7 +40,8 @@ fn input_of<R: Net, I: Drop>(
     until_eof: bool,
     input: I,
 ) -> Option<WatchedInput<I>>
-    ensures { until_eof ≡ false → result ≡ None }
+    ensures some { is_some result ≡ until_eof }
+    ensures none { until_eof ≡ false → result ≡ None }
 {
     if until_eof {
         Some(WatchedInput::new(net, alloc, input))
