@@ -1,6 +1,6 @@
 //! Two threads put and get at a fallback, by the contexts that they are shown, while a third copies back; and then the primary answers.
 mod puts;
-mod worker;
+pub mod worker;
 
 use crate::copy_race::puts::{Put, pair_of, reply_to_get};
 use crate::copy_race::worker::{Done, Part, VNODES, context_in, take};

@@ -4,12 +4,14 @@ ghost use Rattle.gate_node.specs.Passes.{ArePassesOf};
 
 mod deletes;
 pub mod forty;
+mod long;
 mod rows;
 mod tallies;
 
 use crate::diversions::{divert, has_partition};
 use crate::exchanges::new_shared;
 use crate::playing::{Session, play, play_on};
+use crate::returns::long::{Numbers, gets, puts};
 pub use crate::returns::rows::{PUTS_F_AND_G, PUTS_P};
 pub use crate::returns::tallies::gate_tally;
 use crate::returns::tallies::{Accepted, Side, has_accepted, reaps};
@@ -42,6 +44,12 @@ pub enum Call {
     Mark,
     /// So many sessions, each by passes of its own.
     Serves(u32, &'static Session),
+    /// This is the number of its last diversion.
+    Number(u32),
+    /// Puts of these numbers, which are stored.
+    Puts(Numbers),
+    /// Gets of these numbers, each shown with the first dot of its epoch of the fallback.
+    Gets(Numbers),
 }
 
 /// A copy back with this budget: how many keys it copies, and how many are stuck and left.
@@ -217,6 +225,9 @@ pub fn comes<W: Wait>(rt: &W, alloc: Global, shared: &Shared, index: u16, call: 
         Call::Reap(side) => reaps(rt, alloc, handoff, index, *side),
         Call::Mark => is_marked(handoff, index),
         Call::Serves(times, session) => serves(rt, alloc, shared, *times, session),
+        Call::Number(wanted) => handoff.diversion(index) == *wanted,
+        Call::Puts(numbers) => puts(rt, alloc, shared, *numbers),
+        Call::Gets(numbers) => gets(rt, alloc, shared, *numbers),
     }
 }
 

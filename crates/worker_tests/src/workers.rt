@@ -1,4 +1,5 @@
 //! Runs of a pool, from bytes to bytes.
+mod crowd;
 mod kept_ends;
 mod readers;
 mod resting;

@@ -92,3 +92,10 @@ fn two_thousand_jobs_on_four_workers(rt: HostRuntime) -> Result<(), Fail> {
     assert!(rt; counts(&rt, rt.alloc(), 2000, 4) == Some((2000, 2000)));
     Ok(())
 }
+
+// Far more: each number stands for a job that was served once, and for one end.
+#[test]
+fn two_hundred_thousand_jobs_on_two_workers(rt: HostRuntime) -> Result<(), Fail> {
+    assert!(rt; counts(&rt, rt.alloc(), 200_000, 2) == Some((200_000, 200_000)));
+    Ok(())
+}

@@ -151,6 +151,17 @@ const GETS_AND_FORGETS: &Session = &Session {
     ..NEW_SESSION
 };
 
+/// At the fallback a get of b/k, and one with `deletedvclock`, behind its 10,200 events: nothing; the dot of the last of them.
+const GETS_LONG_DEAD: &Session = &Session {
+    requests: b"\0\0\0\x07\x09\x0a\x01b\x12\x01k\0\0\0\x09\x09\x0a\x01b\x12\x01kH\x01",
+    replies: b"\0\0\0\x01\x0a\0\0\0\x18\x0a\x12\x15\x02\0\0\0\0\0\x01\x80\0\0\0\0\x01\0\0\0\0\0\0'\xd8",
+    totals: Totals {
+        gets: 2,
+        ..NOTHING_COUNTED
+    },
+    ..NEW_SESSION
+};
+
 /// How often a key is put and deleted in a long history.
 const ROUNDS: u32 = 5_100;
 
@@ -188,6 +199,7 @@ const DELETES: &[Course] = &[
             has!(LONG, None, true),
             Turn::Divert,
             Turn::Call(Call::Serves(ROUNDS, PUTS_AND_DELETES)),
+            Turn::Serve(GETS_LONG_DEAD),
             has!(LONG, Some(LONG), true),
             copies!(10 => 1, 0, 0),
             finishes!(Returned),

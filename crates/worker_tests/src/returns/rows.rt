@@ -203,13 +203,21 @@ const GETS_P: &Session = &Session {
 /// What comes back with puts alone.
 const RETURNS: &[Course] = &[
     Course {
-        shows: "a partition of which nothing was asked is returned",
+        shows: "a partition of which nothing was asked is returned, and its next fallback gives the first epoch",
         turns: &[
             Turn::Serve(PUTS_P),
+            Turn::Call(Call::Number(0)),
             Turn::Divert,
+            Turn::Call(Call::Number(1)),
             copies!(10 => 0, 0, 0),
             finishes!(Returned),
             Turn::Serve(GETS_P),
+            Turn::Divert,
+            Turn::Call(Call::Number(2)),
+            Turn::Serve(PUTS_F_AND_G),
+            copies!(10 => 2, 0, 0),
+            finishes!(Returned),
+            Turn::Serve(GETS_F),
         ],
         ..ONE_PARTITION
     },

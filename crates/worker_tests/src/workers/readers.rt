@@ -1,10 +1,8 @@
 //! Two gets of one key are inside at once: inside its primary, and inside the fallback of its partition.
 use crate::diversions::divert;
-use crate::exchanges::{GET, NOTHING, NOTHING_ACCEPTED, NOTHING_COUNTED, new_shared};
-use crate::workers::runs::{Run, play_over};
-use crate::workers::script::Line;
+use crate::exchanges::{NOTHING_ACCEPTED, NOTHING_COUNTED, new_shared};
+use crate::workers::runs::{GET_ABSENT, Run, play_over};
 use crate::workers::streams::Counts;
-use node_session::Ended;
 use stats_book::Totals;
 use std::alloc::Global;
 use std::process::Abort;
@@ -39,17 +37,6 @@ impl Turnstile for Holding<'_> {
         }
     }
 }
-
-/// A get of b/k, where it is absent.
-const GET_ABSENT: Line = Line {
-    input: GET,
-    fails: false,
-    result: Ok(Ended {
-        replies: 1,
-        rest: 0,
-    }),
-    written: NOTHING,
-};
 
 const TWO_GETS: Run = Run {
     shows: "two gets of one key are inside at once",

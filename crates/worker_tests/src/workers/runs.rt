@@ -1,6 +1,9 @@
-//! Runs of two workers: a key's two lives; three jobs, of which one is cut and one has a writer that fails; and a source that
-//! fails behind them.
-use crate::exchanges::{LIVED_TWICE, NOTHING_ACCEPTED, TWO_LIVES, accepted_of, new_shared};
+//! Runs of two workers: a key's two lives; three jobs, of which one is cut and one has a writer that fails; a hundred jobs; and a source
+//! that fails behind three.
+use crate::exchanges::{
+    GET, LIVED_TWICE, NOTHING, NOTHING_ACCEPTED, NOTHING_COUNTED, TWO_LIVES, accepted_of,
+    new_shared,
+};
 use crate::workers::script::{Line, Script, play};
 use crate::workers::streams::{Counts, Input, Output};
 use node_session::{Ended, SessionFault};
@@ -106,9 +109,32 @@ pub const THREE: Run = Run {
     accepted: THREE_ACCEPTED,
 };
 
+/// A get of b/k, where it is absent.
+pub const GET_ABSENT: Line = Line {
+    input: GET,
+    fails: false,
+    result: Ok(Ended {
+        replies: 1,
+        rest: 0,
+    }),
+    written: NOTHING,
+};
+
 pub const RUNS: &[Run] = &[
     ONE_KEY,
     THREE,
+    Run {
+        shows: "a hundred jobs end, of which each has seen a beginning of one history",
+        partitions: 1,
+        budget: 0,
+        lines: &[GET_ABSENT; 100],
+        fails: false,
+        totals: Ok(Totals {
+            gets: 100,
+            ..NOTHING_COUNTED
+        }),
+        accepted: NOTHING_ACCEPTED,
+    },
     Run {
         shows: "a source that fails behind its jobs fails the run, and the jobs were served",
         partitions: 2,

@@ -9,7 +9,9 @@ use crossbeam_utils::sync::{Parker, Unparker};
 use job_pool::{Bell, Moved, Turn};
 use session_pool::{Seat, StreamReadiness};
 use std::alloc::{AllocError, Global};
+use std::sync::atomic::Ordering;
 use std::sync::{Arc, Wait};
+use std::thread;
 
 /// All slots, one after another. A stream of a test is always ready, so a worker with a session open never sleeps.
 ///
@@ -20,6 +22,9 @@ pub struct InTurn {
     next: usize,
     slots: usize,
     has_begun: bool,
+    /// A worker that has begun a session takes no further one before this many have begun in the run.
+    apart: u64,
+    counts: Arc<Counts, Global>,
 }
 
 /// Wakes a worker that sleeps. One that is awake doesn't sleep the next time.
@@ -31,8 +36,13 @@ pub struct Wake {
 /// What a worker of the tests is started with.
 pub type TestSeat = Seat<KeptEnds, InTurn, Wake>;
 
-/// A seat, whose sink has memory for so many sessions.
-fn new_seat(alloc: Global, rooms: u32, counts: &Arc<Counts, Global>) -> Result<TestSeat, AllocError>
+/// A seat, whose sink has memory for so many sessions, for a worker that takes a second one when so many have begun.
+fn new_seat(
+    alloc: Global,
+    rooms: u32,
+    apart: u64,
+    counts: &Arc<Counts, Global>,
+) -> Result<TestSeat, AllocError>
     ensures { IfOk result (IsNewSeat (λ sink. sink.ends.items)
         (λ sink n. vec_len sink.ends + n ≤ vec_capacity sink.ends)) }
 {
@@ -45,6 +55,8 @@ fn new_seat(alloc: Global, rooms: u32, counts: &Arc<Counts, Global>) -> Result<T
             next: 0,
             slots: 0,
             has_begun: false,
+            apart,
+            counts: Arc::try_clone(counts)?,
         },
         bell: Wake { unparker },
     })
@@ -63,16 +75,34 @@ pub fn new_seats(
         (λ sink n. vec_len sink.ends + n ≤ vec_capacity sink.ends)) seats.items) }
 {
     let mut seats = Vec::with_capacity(alloc, 2)?;
-    seats.push(new_seat(alloc, rooms, counts)?)?;
+    seats.push(new_seat(alloc, rooms, 0, counts)?)?;
     if are_two {
-        seats.push(new_seat(alloc, rooms, counts)?)?;
+        seats.push(new_seat(alloc, rooms, 0, counts)?)?;
+    }
+    Ok(seats)
+}
+
+/// So many seats, whose sinks have memory, for workers of which none takes a second session before as many sessions have begun.
+pub fn seats_apart(
+    alloc: Global,
+    count: u16,
+    counts: &Arc<Counts, Global>,
+) -> Result<Vec<TestSeat>, AllocError>
+    ensures count { IfOk result (λ seats. length seats.items ≡ count) }
+    ensures new { IfOk result (λ seats. Every (IsNewSeat (λ sink. sink.ends.items)
+        (λ sink n. vec_len sink.ends + n ≤ vec_capacity sink.ends)) seats.items) }
+{
+    let apart = u64::from(count);
+    let mut seats = Vec::with_capacity(alloc, usize::from(count))?;
+    for _ in 0..count {
+        seats.push(new_seat(alloc, u32::MAX, apart, counts)?)?;
     }
     Ok(seats)
 }
 
 impl StreamReadiness<Input, Output> for InTurn {
     fn takes(&mut self, _is_idle: bool) -> bool {
-        true
+        self.slots == 0 || self.counts.are_begun(self.apart)
     }
 
     fn may_take_memory(&self) -> bool {
@@ -82,6 +112,7 @@ impl StreamReadiness<Input, Output> for InTurn {
     fn begin(&mut self, slot: usize, _reader: &Input, _writer: &Output) {
         self.slots = self.slots.max(slot.saturating_add(1));
         self.has_begun = true;
+        self.counts.begun.fetch_add(1, Ordering::SeqCst);
     }
 
     fn next(&mut self) -> Option<Turn> {
@@ -101,7 +132,9 @@ impl StreamReadiness<Input, Output> for InTurn {
     fn after(&mut self, _slot: usize, _moved: Moved) {}
 
     fn wait<T: Wait>(&mut self, rt: &T, is_idle: bool) {
-        if is_idle {
+        if self.apart > 0 {
+            thread::yield_now();
+        } else if is_idle {
             self.parker.park(rt);
         }
     }

@@ -83,7 +83,7 @@ fn are_told(sinks: &[KeptEnds], lines: &[Line], has_room: bool) -> bool {
 }
 
 /// Whether what a run left is as it says.
-fn is_served(served: &TestServed, run: &Run, has_room: bool) -> bool {
+pub fn is_served(served: &TestServed, run: &Run, has_room: bool) -> bool {
     let jobs = run.lines.len() as u64;
     run.totals == Ok(served.totals)
         && served.accepted == jobs

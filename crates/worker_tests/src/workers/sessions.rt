@@ -117,7 +117,11 @@ impl<'a> Jobs for Sessions<'a> {
                 self.number = self.number.saturating_add(1);
                 Ok(Some(session))
             }
-            Err(fault) => Err(fault),
+            Err(fault) => {
+                let very_many = u64::from(u32::MAX);
+                self.counts.begun.fetch_add(very_many, Ordering::SeqCst);
+                Err(fault)
+            }
         }
     }
 }
@@ -134,7 +138,7 @@ pub fn play<X: Threads + Wait + Sync, Q: Pause + Sync>(
     requires of_gates { sessions.shared.now ≡ shared.now }
     requires rest { Every (CanGoOn shared.now) sessions.resting.items }
     requires seen { ArePassesOf shared.now seen.old }
-    requires count { (1 ≤ length seats.items) × (length seats.items ≤ 2) }
+    requires count { (1 ≤ length seats.items) × (length seats.items ≤ 64) }
     requires new { Every (IsNewSeat (λ sink. sink.ends.items)
         (λ sink n. vec_len sink.ends + n ≤ vec_capacity sink.ends)) seats.items }
     ensures resting { IfOk result (λ served. Every (CanGoOn shared.now)

@@ -13,6 +13,8 @@ pub struct Counts {
     pub writes: AtomicU64,
     /// The writers that held just the bytes that they were to hold, once their sessions were over.
     pub well_ended: AtomicU64,
+    /// The sessions that workers have begun, and very many where a further one couldn't be made.
+    pub begun: AtomicU64,
     /// The ends that were told.
     pub ends: AtomicU64,
     /// The refusals that were told.
@@ -25,9 +27,16 @@ impl Counts {
         Counts {
             writes: AtomicU64::new(0),
             well_ended: AtomicU64::new(0),
+            begun: AtomicU64::new(0),
             ends: AtomicU64::new(0),
             refusals: AtomicU64::new(0),
         }
+    }
+
+    /// Whether so many sessions have begun or were refused, or no further one can be made.
+    pub fn are_begun(&self, sessions: u64) -> bool {
+        let refused = self.refusals.load(Ordering::SeqCst);
+        self.begun.load(Ordering::SeqCst).saturating_add(refused) >= sessions
     }
 
     /// Whether so many ends, each behind its writer's own, and so many refusals were told.
