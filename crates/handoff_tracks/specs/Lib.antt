@@ -1,0 +1,4 @@
+-- The definitions of this crate.
+pub mod Compared
+pub mod Joining
+pub mod Tracks
