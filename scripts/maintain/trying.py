@@ -106,9 +106,13 @@ class Node:
         self.reader = threading.Thread(target=lambda: self.log.extend(self.process.stderr), daemon=True)
         if reads_log:
             self.reader.start()
-        self.first = self.process.stdout.readline().decode().strip()
+        self.first = self.first_line()
         check(self.first.startswith("listening "), "the node said", repr(self.first), "and not that it listens;", b"".join(self.log))
         self.port = int(self.first.rpartition(":")[2])
+
+    def first_line(self):
+        """The line in which it says that it listens."""
+        return self.process.stdout.readline().decode().strip()
 
     def connect(self, address="127.0.0.1"):
         client = socket.create_connection((address, self.port), SECONDS)

@@ -6,7 +6,7 @@ use Rattle.std.specs.Prelude.{Option, IfSome}
 use Rattle.std.specs.Option.{option_map}
 use mathlib.Core.Logic.{inl, inr}
 use Rattle.job_pool.specs.Lists.{Every, concat}
-use Rattle.gate_node.specs.Gates.{Gates}
+use Rattle.gate_node.specs.Gates.{Gates, handoff_of}
 use Rattle.gate_node.specs.Merging.{HaveSeenAllOf}
 use Rattle.gate_node.specs.OneHistory.{IsSeen, ShareHistories}
 use Rattle.gate_node.specs.Passes.{Sights, ArePassesOf}
@@ -29,6 +29,7 @@ use Rattle.node_commands.specs.declared.progress.Progress.{Progress}
 use Rattle.node_commands.specs.declared.progress.Paused.{Paused}
 use Rattle.node_commands.specs.declared.until.UntilSettings.{UntilSettings}
 use Rattle.node_commands.specs.Runs.{IsNewRun, ToldConnections, replies_of}
+use Rattle.handoff_tracks.specs.Tracks.{HaveTracks}
 use Rattle.node_commands.specs.Periods.{AddsUp, AllTellIn, CanServe, GoesThrough, HasRun, HasServed, IsControlled, IsNew, IsReady, Moves, rested_in}
 use Rattle.node_commands.proofs.Begun.{every_at}
 use Rattle.node_commands.proofs.Sources.{gave_all, new_for}
@@ -177,8 +178,8 @@ all_tell histories first (next ∷ path) last (inr (same, index, diverted), goes
 -- what came of a server that ended so, with tallies of what its passes have seen
 pub is_controlled : (settings : UntilSettings) (last : Paused) (outcome : Controlled) → CanServe settings last
     → ShareHistories (λ (s : Sights). s) last.shared.gates (last.progress.seen ∷ []) outcome.tallies.tallies.items outcome.tallies.count_all
-    → outcome.totals ≡ last.progress.totals → outcome.connections ≡ last.progress.connections → outcome.closed ≡ last.progress.closed → IsControlled settings outcome
-is_controlled settings last outcome can history totals connections closed =
+    → outcome.totals ≡ last.progress.totals → outcome.connections ≡ last.progress.connections → outcome.closed ≡ last.progress.closed → HaveTracks (handoff_of last.shared) outcome.tracks → IsControlled settings outcome
+is_controlled settings last outcome can history totals connections closed tracks =
     let run = can.run in
     let seen = last.progress.seen in
     let Kept : Sights → Type 0 = λ sights. ArePassesOf last.shared sights in
@@ -193,6 +194,7 @@ is_controlled settings last outcome can history totals connections closed =
       totals = totals;
       connections = connections;
       closed = closed;
+      tracks = tracks;
     }
 
 -- a server that wasn't changed may go on as before

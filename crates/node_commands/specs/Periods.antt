@@ -3,7 +3,7 @@ use Rattle.std.specs.Prelude.{◌≡◌, ◌+◌, ◌≤◌, ◌⊎◌, ◌++◌
 use mathlib.Core.Logic.{inl, inr}
 use Rattle.job_pool.specs.Lists.{Every, concat}
 use Rattle.stats_book.specs.Counting.{both, zeros}
-use Rattle.gate_node.specs.Gates.{Gates}
+use Rattle.gate_node.specs.Gates.{Gates, handoff_of}
 use Rattle.gate_node.specs.OneHistory.{ShareHistories}
 use Rattle.gate_node.specs.Passes.{Sights, ArePassesOf, AreUnused}
 use Rattle.gate_node.specs.Tallies.{GateHistory}
@@ -21,6 +21,7 @@ use Rattle.node_commands.specs.declared.period.Before.{Before}
 use Rattle.node_commands.specs.declared.progress.Progress.{Progress}
 use Rattle.node_commands.specs.declared.progress.Paused.{Paused}
 use Rattle.node_commands.specs.declared.until.UntilSettings.{UntilSettings}
+use Rattle.handoff_tracks.specs.Tracks.{HaveTracks}
 use Rattle.node_commands.specs.Runs.{IsAtPositions, IsNewRun, ToldConnections, replies_of}
 
 -- the sessions that rest, of each worker
@@ -98,7 +99,7 @@ AllTellIn histories first [] last goes = Unit {0}
 AllTellIn histories first (next ∷ path) last goes = TellsIn histories first next goes.0 × AllTellIn histories next path last goes.1
 
 -- What came of a server. The totals are what all sessions counted, and the tallies are those of one history of each primary's vnode through all of it: each
--- reply at a primary of each session that ended, in whatever period, is at a position of that.
+-- reply at a primary of each session that ended, in whatever period, is at a position of that. What is known of the partitions' diversions holds.
 pub record IsControlled (settings : UntilSettings) (outcome : Controlled) : Type 0 where
   pub last : Paused
   pub run : HasRun settings last
@@ -108,3 +109,4 @@ pub record IsControlled (settings : UntilSettings) (outcome : Controlled) : Type
   pub totals : outcome.totals ≡ last.progress.totals
   pub connections : outcome.connections ≡ last.progress.connections
   pub closed : outcome.closed ≡ last.progress.closed
+  pub tracks : HaveTracks (handoff_of last.shared) outcome.tracks

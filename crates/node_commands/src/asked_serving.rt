@@ -70,21 +70,21 @@ where
 
 /// Serves the connections of a listener on this ring, as [`serve_controlled`] does, in the way that these options ask for, while an operator says on a console
 /// what is to be done.
-pub fn serve_as_controlled<T, I, O>(
+pub fn serve_as_controlled<T, C, W>(
     rt: &T,
     alloc: Global,
     listener: TcpListener,
     ring: Ring,
     options: ServingOptions,
-    input: I,
-    output: O,
+    operator: C,
+    writer: &mut W,
 ) -> Result<Controlled, ServeFault>
 where
     T: Log + Clock + Net + Threads + Wait + Sync,
-    I: Read + Send + Drop,
-    O: Write + Send + Drop,
+    C: Read + Write + Send + Drop,
+    W: Write,
     ensures { IfOk result (IsControlled (settings_of options ring)) }
 {
     let settings = settings_of(options, ring);
-    serve_controlled(rt, alloc, listener, &settings, input, output)
+    serve_controlled(rt, alloc, listener, &settings, operator, writer)
 }

@@ -1,22 +1,15 @@
-//! An operator's console of a serving node.
-
-ghost use Rattle.std.specs.Prelude.{◌≡◌, ◌<◌, ◌↔◌, ◌^◌, IsTrue};
-ghost use Rattle.node_commands.specs.Console.{AnswersCopy, AnswersReturn, refusal_of};
+//! An operator's console: what an operator writes and reads, line by line.
 
 use crate::lines::write_open_totals;
-use control_text::{Answer, Command, Refusal, read_command};
-use gate_node::Shared;
-use handoff::HandoffFault;
-use socket_streams::Stop;
+use control_text::{Answer, Command, read_command};
 use stats_book::Totals;
 use std::alloc::Global;
 use std::io::{ErrorKind, Read, Write};
-use std::net::TcpListener;
 use std::rt::Clock;
 use std::sync::Wait;
 use std::sync::atomic::{AtomicBool, Ordering};
+use std::thread;
 use std::time::Duration;
-use std::{io, thread};
 
 /// How many bytes of a line are kept: more than a command has.
 const MAX_LINE: usize = 64;
@@ -24,7 +17,7 @@ const MAX_LINE: usize = 64;
 /// How many bytes are kept back for a pause.
 const SPARE_LEN: usize = 1_048_576;
 
-/// The pause, in milliseconds, before an input is read again that had nothing yet.
+/// The pause, in milliseconds, before a channel is read again that had nothing yet.
 const PAUSE_MILLIS: u64 = 10;
 
 /// What an operator is told that the workers were paused for.
@@ -36,11 +29,21 @@ pub(crate) enum Told {
     Totals(Totals, u64),
 }
 
-/// What an operator writes and reads, and the line that has come so far.
+/// What came of reading on to the end of a line.
+#[derive(Clone, Copy, Drop)]
+pub(crate) enum Heard {
+    /// A line has come.
+    Line,
+    /// The channel's input has ended, or can't be read.
+    End,
+    /// Serving has ended by itself.
+    Over,
+}
+
+/// The channel to an operator, and the line that has come over it so far.
 #[derive(Drop)]
-pub(crate) struct Console<I, O> {
-    input: I,
-    output: O,
+pub(crate) struct Console<C> {
+    operator: C,
     line: [u8; MAX_LINE],
     /// How many bytes of the line have come.
     length: usize,
@@ -50,89 +53,11 @@ pub(crate) struct Console<I, O> {
     spare: Option<Vec<u8>>,
 }
 
-/// What came of reading on to the end of a line.
-#[derive(Clone, Copy, Drop)]
-enum Heard {
-    /// A line has come.
-    Line,
-    /// The input has ended, or can't be read.
-    End,
-    /// Serving has ended by itself.
-    Over,
-}
-
-/// What a server is paused or stopped for.
-#[derive(Clone, Copy, Drop)]
-pub(crate) enum Asked {
-    /// Nothing: it ended by itself.
-    Nothing,
-    /// To tell its totals.
-    Totals,
-    /// To divert this partition, which it has.
-    Divert(u16),
-    /// To stop.
-    Stop,
-}
-
-/// Why a command that names this partition wasn't done.
-pub(crate) fn refusal_of(partition: u16, fault: &HandoffFault) -> Refusal
-    ensures { result ≡ refusal_of partition fault.now }
-{
-    match fault {
-        HandoffFault::AlreadyDiverted => Refusal::AlreadyDiverted(partition),
-        HandoffFault::NotDiverted(_) => Refusal::NotDiverted(partition),
-        HandoffFault::LeftOver(_) => Refusal::LeftOver(partition),
-        HandoffFault::NoMemory => Refusal::NoMemory,
-        HandoffFault::GateStopped => Refusal::GateStopped(partition),
-    }
-}
-
-/// Whether there is a partition of this index.
-fn has_partition(shared: &Shared, partition: u16) -> bool
-    ensures { IsTrue result ↔ partition < 2 ^ shared.now.index_bits }
-{
-    usize::from(partition) < shared.gates().len()
-}
-
-/// Copies keys of a partition back, while calls go on.
-fn copy<X: Wait>(rt: &X, alloc: Global, shared: &Shared, partition: u16, budget: u32) -> Answer
-    requires { partition < 2 ^ shared.now.index_bits }
-    ensures { AnswersCopy shared.now partition budget result }
-{
-    match shared.handoff().copy_back(rt, alloc, partition, budget) {
-        Ok(copied) => Answer::Copied {
-            partition,
-            keys: u64::from(copied.keys),
-            left: copied.left > 0,
-        },
-        Err(fault) => Answer::Refused(refusal_of(partition, &fault)),
-    }
-}
-
-/// Ends the diversion of a partition, while calls go on.
-fn finish_return<X: Wait>(rt: &X, alloc: Global, shared: &Shared, partition: u16) -> Answer
-    requires { partition < 2 ^ shared.now.index_bits }
-    ensures { AnswersReturn shared.now partition result }
-{
-    match shared.handoff().finish_return(rt, alloc, partition) {
-        Ok(_passes) => Answer::Returned(partition),
-        Err(fault) => Answer::Refused(refusal_of(partition, &fault)),
-    }
-}
-
-/// Writes where the listener listens, in a line, as far as that can be done.
-pub(crate) fn announce<W: Write>(listener: &TcpListener, writer: &mut W) -> io::Result<()> {
-    let address = listener.local_addr()?;
-    writeln!(writer, "listening {address}")?;
-    writer.flush()
-}
-
-impl<I: Read, O: Write> Console<I, O> {
-    /// A console of which no line has come.
-    pub(crate) fn new(input: I, output: O) -> Console<I, O> {
+impl<C: Read + Write> Console<C> {
+    /// A console over this channel, of which no line has come.
+    pub(crate) fn new(operator: C) -> Console<C> {
         Console {
-            input,
-            output,
+            operator,
             line: [0; MAX_LINE],
             length: 0,
             kept: None,
@@ -147,6 +72,11 @@ impl<I: Read, O: Write> Console<I, O> {
         }
     }
 
+    /// Whether memory is kept back for a pause.
+    pub(crate) fn can_pause(&self) -> bool {
+        self.spare.is_some()
+    }
+
     /// Lets go what is kept back, while the workers are paused.
     pub(crate) fn make_way(&mut self) {
         self.spare = None;
@@ -158,7 +88,7 @@ impl<I: Read, O: Write> Console<I, O> {
     }
 
     /// Tells what was kept, if anything was, as far as that can be written.
-    fn tell_kept(&mut self) {
+    pub(crate) fn tell_kept(&mut self) {
         match self.kept {
             Some(Told::Answer(answer)) => self.answer(answer),
             Some(Told::Totals(totals, connections)) => self.tell_totals(totals, connections),
@@ -167,22 +97,17 @@ impl<I: Read, O: Write> Console<I, O> {
         self.kept = None;
     }
 
-    /// What is written.
-    pub(crate) fn output(&mut self) -> &mut O {
-        &mut self.output
-    }
-
     /// Answers, as far as that can be written.
-    fn answer(&mut self, answer: Answer) {
-        if answer.write_line(&mut self.output).is_ok() {
-            let _unheard = self.output.flush();
+    pub(crate) fn answer(&mut self, answer: Answer) {
+        if answer.write_line(&mut self.operator).is_ok() {
+            let _unheard = self.operator.flush();
         }
     }
 
     /// Tells the totals at a pause, and how many connections were accepted by then, as far as that can be written.
     fn tell_totals(&mut self, totals: Totals, connections: u64) {
-        if write_open_totals(&mut self.output, totals, connections).is_ok() {
-            let _unheard = self.output.flush();
+        if write_open_totals(&mut self.operator, totals, connections).is_ok() {
+            let _unheard = self.operator.flush();
         }
     }
 
@@ -198,8 +123,8 @@ impl<I: Read, O: Write> Console<I, O> {
         false
     }
 
-    /// Reads on to the end of a line, and keeps memory back meanwhile.
-    fn read_line<X: Clock + Wait>(
+    /// Reads on to the end of a line, and keeps memory back meanwhile. Where who wrote has gone, what has come of the line is dropped.
+    pub(crate) fn read_line<X: Clock + Wait>(
         &mut self,
         rt: &X,
         alloc: Global,
@@ -211,7 +136,7 @@ impl<I: Read, O: Write> Console<I, O> {
             if has_ended.load(Ordering::SeqCst) {
                 return Heard::Over;
             }
-            match self.input.read(&mut byte) {
+            match self.operator.read(&mut byte) {
                 Ok(0) => return Heard::End,
                 Ok(_) => {
                     if self.takes(byte[0]) {
@@ -220,6 +145,7 @@ impl<I: Read, O: Write> Console<I, O> {
                 }
                 Err(error) => match error.kind() {
                     ErrorKind::Interrupted => {}
+                    ErrorKind::ConnectionReset => self.length = 0,
                     ErrorKind::WouldBlock => thread::sleep(rt, Duration::from_millis(PAUSE_MILLIS)),
                     _ => return Heard::End,
                 },
@@ -229,115 +155,12 @@ impl<I: Read, O: Write> Console<I, O> {
     }
 
     /// What the line that has come asks for, and begins a new one.
-    fn take_command(&mut self) -> Option<Command> {
+    pub(crate) fn take_command(&mut self) -> Option<Command> {
         let length = self.length;
         self.length = 0;
         match self.line.get(..length) {
             Some(line) => read_command(line),
             None => None,
-        }
-    }
-
-    /// Has the workers paused for this, and returns it; refuses it where no memory is kept back by which they could be started again.
-    fn pause_for(&mut self, stop: &Stop, asked: Asked) -> Option<Asked> {
-        if self.spare.is_none() {
-            self.answer(Answer::Refused(Refusal::NoMemory));
-            return None;
-        }
-        stop.pause();
-        Some(asked)
-    }
-
-    /// Does a command on a partition that there is: one that needs no pause.
-    fn obey_at<X: Wait>(
-        &mut self,
-        rt: &X,
-        alloc: Global,
-        shared: &Shared,
-        stop: &Stop,
-        command: Command,
-        partition: u16,
-    ) -> Option<Asked>
-        requires { partition < 2 ^ shared.now.index_bits }
-    {
-        match command {
-            Command::Divert(_) => return self.pause_for(stop, Asked::Divert(partition)),
-            Command::Copy { budget, .. } => {
-                self.answer(copy(rt, alloc, shared, partition, budget));
-            }
-            Command::Return(_) => self.answer(finish_return(rt, alloc, shared, partition)),
-            Command::Totals | Command::Stop => {}
-        }
-        None
-    }
-
-    /// Does a command; where the workers are to be paused or stopped for it, says so to them, and returns what for.
-    fn obey<X: Wait>(
-        &mut self,
-        rt: &X,
-        alloc: Global,
-        shared: &Shared,
-        stop: &Stop,
-        command: Command,
-    ) -> Option<Asked> {
-        let partition = match command {
-            Command::Totals => return self.pause_for(stop, Asked::Totals),
-            Command::Stop => {
-                stop.raise();
-                return Some(Asked::Stop);
-            }
-            Command::Divert(partition) | Command::Return(partition) => partition,
-            Command::Copy { partition, .. } => partition,
-        };
-        if has_partition(shared, partition) {
-            return self.obey_at(rt, alloc, shared, stop, command, partition);
-        }
-        self.answer(Answer::Refused(Refusal::NoPartition(partition)));
-        None
-    }
-
-    /// Tells what was kept, and does what the lines that come ask for, until one needs a pause or stops the node, the input ends, which stops it, or
-    /// serving has ended. A line without its line feed is none.
-    pub(crate) fn hear<X: Clock + Wait>(
-        &mut self,
-        rt: &X,
-        alloc: Global,
-        shared: &Shared,
-        stop: &Stop,
-        has_ended: &AtomicBool,
-    ) -> Asked {
-        self.tell_kept();
-        for _ in rt.forever() {
-            match self.read_line(rt, alloc, has_ended) {
-                Heard::Over => return Asked::Nothing,
-                Heard::End => {
-                    stop.raise();
-                    return Asked::Stop;
-                }
-                Heard::Line => {
-                    if let Some(asked) = self.heed_line(rt, alloc, shared, stop) {
-                        return asked;
-                    }
-                }
-            }
-        }
-        unreachable!()
-    }
-
-    /// Does what the line that has come asks for, or answers that it asks for nothing.
-    fn heed_line<X: Wait>(
-        &mut self,
-        rt: &X,
-        alloc: Global,
-        shared: &Shared,
-        stop: &Stop,
-    ) -> Option<Asked> {
-        match self.take_command() {
-            Some(command) => self.obey(rt, alloc, shared, stop, command),
-            None => {
-                self.answer(Answer::Refused(Refusal::BadCommand));
-                None
-            }
         }
     }
 }

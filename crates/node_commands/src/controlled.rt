@@ -1,21 +1,27 @@
 //! Serving while an operator says what is to be done.
 
-ghost use Rattle.std.specs.Prelude.{◌≡◌, ◌<◌, ◌≤◌, ◌^◌, ◌∷◌, [], IfOk, true};
+ghost use Rattle.std.specs.Prelude.{◌≡◌, ◌≤◌, ◌∷◌, [], IfOk};
+ghost use Rattle.gate_node.specs.Gates.{handoff_of};
 ghost use Rattle.gate_node.specs.OneHistory.{ShareHistories};
 ghost use Rattle.gate_node.specs.Passes.{ArePassesOf, Sights};
+ghost use Rattle.node_commands.specs.Console.{AnswersDivert};
 ghost use Rattle.node_commands.specs.Periods.{CanServe, IsControlled};
+ghost use Rattle.handoff_tracks.specs.Tracks.{HaveTracks};
 ghost use Rattle.node_commands.specs.declared.console.Told.TheVariants as tolds;
 
-use crate::console::{Asked, Console, Told, announce, refusal_of};
+use crate::commands::{Asked, has_partition, refusal_of};
+use crate::console::{Console, Told};
 use crate::fault::ServeFault;
 use crate::gates::new_shared;
-use crate::lines::report;
+use crate::hearing::Hearing;
+use crate::lines::{announce, report};
 use crate::period::{Period, serve_on};
 use crate::progress::Paused;
 use crate::until::UntilSettings;
 use control_text::{Answer, Refusal};
 use gate_node::{RunTallies, tallies_of};
-use log::Log;
+use handoff_tracks::{HandoffTrack, HandoffTracks};
+use log::{Log, info, warn};
 use stats_book::Totals;
 use std::alloc::Global;
 use std::io::{Read, Write};
@@ -36,6 +42,8 @@ pub struct Controlled {
     pub connections: u64,
     /// How many of them were closed before they came to a worker, for want of memory.
     pub closed: u64,
+    /// What is known of each partition's diversions, in the order of the partitions.
+    pub tracks: HandoffTracks,
 }
 
 /// Whether serving ends that was paused or stopped for this.
@@ -46,30 +54,48 @@ fn is_end(asked: Asked) -> bool {
     }
 }
 
-/// Whether a server has a partition of this index.
-fn has_partition(paused: &Paused, partition: u16) -> bool
-    ensures { result ≡ true → partition < 2 ^ paused.now.shared.index_bits }
-{
-    usize::from(partition) < paused.shared.gates().len()
-}
-
-/// A paused server with this partition diverted, where it has it and that can be done, and what is answered.
+/// A paused server with this partition diverted, where it has it and that can be done, and what is answered. Where that says why not, it is unchanged.
 fn divert(
     alloc: Global,
     paused: Paused,
     settings: &UntilSettings,
+    tracks: &mut HandoffTracks,
     partition: u16,
 ) -> (Paused, Answer)
-    requires { CanServe settings.now paused }
-    ensures { CanServe settings.now result.0 }
+    requires serves { CanServe settings.now paused }
+    requires tracks { HaveTracks (handoff_of paused.shared) tracks.old }
+    ensures serves { CanServe settings.now result.0 }
+    ensures answers { AnswersDivert paused partition result.0 result.1 }
+    ensures tracks { HaveTracks (handoff_of result.0.shared) tracks.new }
 {
-    if !has_partition(&paused, partition) {
+    if !has_partition(&paused.shared, partition) {
         return (paused, Answer::Refused(Refusal::NoPartition(partition)));
     }
     let (paused, diverted) = paused.divert(alloc, partition, settings.sweep);
     match diverted {
-        Ok(()) => (paused, Answer::Diverted(partition)),
+        Ok(()) => {
+            tracks.begin(partition);
+            (paused, Answer::Diverted(partition))
+        }
         Err(fault) => (paused, Answer::Refused(refusal_of(partition, &fault))),
+    }
+}
+
+/// Tells the log how many diversions have returned of which all calls are known, and of how many partitions not all are, where there are such.
+fn tell_tracks<R: Log>(rt: &R, tracks: &[HandoffTrack]) {
+    let mut returned: u64 = 0;
+    let mut unknown: u64 = 0;
+    for track in tracks {
+        match track.returned() {
+            Some(number) => returned = returned.saturating_add(number),
+            None => unknown = unknown.saturating_add(1),
+        }
+    }
+    if returned > 0 {
+        info!(rt; "{returned} diversions returned");
+    }
+    if unknown > 0 {
+        warn!(rt; "of {unknown} partitions not all copies are known: one was refused behind some keys");
     }
 }
 
@@ -81,25 +107,26 @@ fn totals_of(paused: &Paused) -> Told
 }
 
 /// Does what a server was paused for, lets go what was kept back for that, and keeps what the operator is told of that.
-fn heed<I: Read, O: Write>(
+fn heed<C: Read + Write>(
     alloc: Global,
     paused: Paused,
     settings: &UntilSettings,
-    console: &mut Console<I, O>,
-    asked: Asked,
+    hearing: &mut Hearing<C>,
 ) -> Paused
-    requires { CanServe settings.now paused }
-    ensures { CanServe settings.now result }
+    requires serves { CanServe settings.now paused }
+    requires tracks { HaveTracks (handoff_of paused.shared) hearing.old.tracks }
+    ensures serves { CanServe settings.now result }
+    ensures tracks { HaveTracks (handoff_of result.shared) hearing.new.tracks }
 {
-    console.make_way();
-    match asked {
+    hearing.console.make_way();
+    match hearing.asked {
         Asked::Divert(partition) => {
-            let (paused, answer) = divert(alloc, paused, settings, partition);
-            console.keep(Told::Answer(answer));
+            let (paused, answer) = divert(alloc, paused, settings, &mut hearing.tracks, partition);
+            hearing.console.keep(Told::Answer(answer));
             paused
         }
         Asked::Totals => {
-            console.keep(totals_of(&paused));
+            hearing.console.keep(totals_of(&paused));
             paused
         }
         Asked::Nothing | Asked::Stop => paused,
@@ -107,35 +134,38 @@ fn heed<I: Read, O: Write>(
 }
 
 /// Serves, one period behind another, until it is stopped or has ended by itself.
-fn serve_periods<T, I, O>(
+fn serve_periods<T, C>(
     rt: &T,
     alloc: Global,
     listener: &TcpListener,
     paused: Paused,
     settings: &UntilSettings,
-    console: Console<I, O>,
-) -> Result<(Paused, Console<I, O>), ServeFault>
+    console: Console<C>,
+    tracks: HandoffTracks,
+) -> Result<(Paused, HandoffTracks), ServeFault>
 where
     T: Log + Clock + Net + Threads + Wait + Sync,
-    I: Read + Send + Drop,
-    O: Write + Send + Drop,
+    C: Read + Write + Send + Drop,
     requires workers { (1 ≤ settings.now.workers) × (settings.now.workers ≤ 64) }
     requires begins { CanServe settings.now paused }
-    ensures { IfOk result (λ left. CanServe settings.now left.0) }
+    requires tracks { HaveTracks (handoff_of paused.shared) tracks }
+    ensures serves { IfOk result (λ left. CanServe settings.now left.0) }
+    ensures tracks { IfOk result (λ left. HaveTracks (handoff_of left.0.shared) left.1) }
 {
     let mut paused = paused;
     let mut console = console;
+    let mut tracks = tracks;
     for _ in rt.forever() {
         let Period {
             paused: left,
-            console: mut theirs,
-            asked,
-        } = serve_on(rt, alloc, listener, paused, settings, console)?;
-        if is_end(asked) {
-            return Ok((left, theirs));
+            mut hearing,
+        } = serve_on(rt, alloc, listener, paused, settings, console, tracks)?;
+        if is_end(hearing.asked) {
+            return Ok((left, hearing.tracks));
         }
-        paused = heed(alloc, left, settings, &mut theirs, asked);
-        console = theirs;
+        paused = heed(alloc, left, settings, &mut hearing);
+        console = hearing.console;
+        tracks = hearing.tracks;
     }
     unreachable!()
 }
@@ -159,8 +189,10 @@ fn conclude<X: Wait>(
     alloc: Global,
     paused: &Paused,
     settings: &UntilSettings,
+    tracks: HandoffTracks,
 ) -> Result<Controlled, ServeFault>
-    requires { CanServe settings.now paused.now }
+    requires serves { CanServe settings.now paused.now }
+    requires tracks { HaveTracks (handoff_of paused.now.shared) tracks }
     ensures { IfOk result (IsControlled settings.now) }
 {
     // what is asked and what is said name the settings
@@ -171,6 +203,7 @@ fn conclude<X: Wait>(
             tallies,
             connections: paused.progress.connections,
             closed: paused.progress.closed,
+            tracks,
         }),
         Err(fault) => Err(fault),
     }
@@ -179,17 +212,22 @@ fn conclude<X: Wait>(
 /// Serves the connections of a listener as [`serve_on_until`](crate::serve_on_until) does, over the gates of a new run, while an operator says line by line
 /// what is to be done (`control_text` has the commands and the answers).
 ///
-/// It writes `listening ADDRESS` before the first connection is accepted, one line for each line that it reads, and the totals at the end:
+/// It writes `listening ADDRESS` before the first connection is accepted, and the totals at the end. Over the operator's channel it reads lines, and writes one
+/// for each:
 ///
 /// - `totals`: what all sessions have counted, and how many connections were accepted, at one moment. For that the workers are paused.
 /// - `divert P`: the calls of partition P are for a fallback from then on. For that the workers are paused. Refused where there is no such partition, where it
 ///   is diverted, and where memory is refused.
 /// - `copy P B`: at most B keys of its fallback are copied back to its primary, while calls go on.
 /// - `return P`: its calls are for the primary again, where all keys are copied as they are then, while calls go on.
-/// - `stop`, or the end of the input: all connections are ended, and then the call returns.
+/// - `stop`, or the end of the channel's input: all connections are ended, and then the call returns.
 ///
 /// A line that asks for none of these, or is longer than 64 bytes, is refused. One without its line feed isn't obeyed. A line that can't be written is passed over,
 /// and one that nobody reads holds up the operator alone. It returns too once as many connections were accepted as are to be and all of them have ended.
+///
+/// A read of the channel that fails with `ConnectionReset` means that who wrote has gone, and another operator may come over the same channel: what has come of a
+/// line is dropped, and the channel is read on. It fails so once for each who goes. One that fails with `WouldBlock` is made again 10 ms later, and one that is
+/// interrupted at once; any other error is as the end of the input.
 ///
 /// Where the workers are paused each lays its sessions down, between two of their steps: no connection is closed, nothing that came over it is lost, nor anything
 /// that is to be sent. Then they go on. Sockets that are kept open for late bytes alone, behind a refused frame, are closed then, and the time for which
@@ -197,25 +235,27 @@ fn conclude<X: Wait>(
 ///
 /// So that the workers can be started again where they had filled all memory, a MiB is kept back between pauses; where it can't be had, `totals` and `divert`
 /// are refused with `no memory`. Where they can't be started for want of a thread or a descriptor, serving ends with that fault.
-pub fn serve_controlled<T, I, O>(
+pub fn serve_controlled<T, C, W>(
     rt: &T,
     alloc: Global,
     listener: TcpListener,
     settings: &UntilSettings,
-    input: I,
-    mut output: O,
+    operator: C,
+    writer: &mut W,
 ) -> Result<Controlled, ServeFault>
 where
     T: Log + Clock + Net + Threads + Wait + Sync,
-    I: Read + Send + Drop,
-    O: Write + Send + Drop,
+    C: Read + Write + Send + Drop,
+    W: Write,
     requires workers { (1 ≤ settings.now.workers) × (settings.now.workers ≤ 64) }
     requires run { 1 ≤ settings.now.run }
 
     // From a new run on the workers served or a partition was diverted, one behind another. In each period every session that rested went on, and each
     // connection that came had one begun; each of these ended, and its sink was told so, or rests, or was refused, once. What it wrote is what a session
     // writes from its first read on, by a node over the gates as they were at each step. No more connections were accepted than were to be. There is one
-    // history of each primary's vnode through all periods, of which every session that is over has seen a beginning, with its tally.
+    // history of each primary's vnode through all periods, of which every session that is over has seen a beginning, with its tally. What is known of a
+    // partition's diversions is what each call of its hand-offs gave, one behind another: where all is known, no sibling was lost by them and none came
+    // again (`known_hand_offs_join`).
     ensures { IfOk result (IsControlled settings.now) }
 {
     let Some(shared) = new_shared(alloc, settings.ring, settings.run, settings.sweep) else {
@@ -224,9 +264,13 @@ where
     let Some(paused) = Paused::new(alloc, shared) else {
         return Err(ServeFault::NoMemory);
     };
-    let _unheard = announce(&listener, &mut output);
-    let console = Console::new(input, output);
-    let (paused, mut console) = serve_periods(rt, alloc, &listener, paused, settings, console)?;
-    let _unheard = report(paused.progress.totals, console.output());
-    conclude(rt, alloc, &paused, settings)
+    let Ok(tracks) = HandoffTracks::new(alloc, paused.shared.handoff()) else {
+        return Err(ServeFault::NoMemory);
+    };
+    let _unheard = announce(&listener, writer);
+    let console = Console::new(operator);
+    let (paused, tracks) = serve_periods(rt, alloc, &listener, paused, settings, console, tracks)?;
+    tell_tracks(rt, tracks.tracks());
+    let _unheard = report(paused.progress.totals, writer);
+    conclude(rt, alloc, &paused, settings, tracks)
 }

@@ -19,16 +19,18 @@
 //! gives is unknown. What was written to a connection is the replies, in order, and what the system took of that is its beginning.
 //!
 //! How a server goes on that is paused is in `specs/Periods`: it goes through periods, in each of which its workers serve (`HasServed`), and diversions, while
-//! they are paused; what its sessions have seen and counted goes from one to the next.
+//! they are paused; what its sessions have seen and counted goes from one to the next. What each call of a hand-off gave is kept in tracks (`handoff_tracks`).
 //!
 //! What it costs: what its connections cost (`socket_streams`); by [`serve_on`] the end of each besides, with its passes.
 #![tactic(auto)]
 
 mod asked_serving;
+mod commands;
 mod console;
 mod controlled;
 mod fault;
 mod gates;
+mod hearing;
 mod lines;
 mod options;
 mod period;

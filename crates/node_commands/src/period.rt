@@ -2,14 +2,18 @@
 
 ghost use Rattle.std.specs.Prelude.{◌≡◌, ◌-◌, ◌≤◌, length, IfOk, IfSome};
 ghost use Rattle.std.specs.Option.{option_map};
+ghost use Rattle.gate_node.specs.Gates.{handoff_of};
 ghost use Rattle.node_commands.specs.Periods.{AddsUp, HasServed, IsReady};
+ghost use Rattle.handoff_tracks.specs.Tracks.{HaveTracks};
 
-use crate::console::{Asked, Console};
+use crate::console::Console;
 use crate::fault::{ServeFault, setup_fault};
+use crate::hearing::{Hearing, KnowsTracks, hear};
 use crate::progress::{Paused, Progress, both};
 use crate::serving::serve_fault;
 use crate::until::UntilSettings;
 use gate_node::{Open, Passes, Shared};
+use handoff_tracks::HandoffTracks;
 use log::Log;
 use session_pool::{Served, serve};
 use socket_streams::{
@@ -21,6 +25,7 @@ use std::alloc::Global;
 use std::io::{Read, Write};
 use std::net::{Net, TcpListener};
 use std::rt::Clock;
+use std::snapshot::Snapshot;
 use std::sync::Wait;
 use std::sync::atomic::{AtomicBool, Ordering};
 use std::thread;
@@ -147,65 +152,73 @@ where
 
 /// What a period comes to.
 #[derive(Drop)]
-pub(crate) struct Period<I, O> {
+pub(crate) struct Period<C> {
     pub(crate) paused: Paused,
-    pub(crate) console: Console<I, O>,
-    /// What it was paused or stopped for.
-    pub(crate) asked: Asked,
+    pub(crate) hearing: Hearing<C>,
 }
 
 /// A period while an operator is heard by a thread of its own, over these gates, with what the workers wait with and what pauses and stops them.
-fn serve_and_hear<T, I, O>(
+fn serve_and_hear<T, C>(
     rt: &T,
     alloc: Global,
     listener: &TcpListener,
     shared: &Shared,
     progress: Progress,
     settings: &UntilSettings,
-    console: Console<I, O>,
+    console: Console<C>,
+    tracks: HandoffTracks,
     stop: Stop,
     waits: RunWaits,
-) -> Result<(Progress, Console<I, O>, Asked), ServeFault>
+) -> Result<(Progress, Hearing<C>), ServeFault>
 where
     T: Log + Clock + Net + Threads + Wait + Sync,
-    I: Read + Send + Drop,
-    O: Write + Send + Drop,
+    C: Read + Write + Send + Drop,
     requires workers { (1 ≤ length waits.workers.items) × (length waits.workers.items ≤ 64) }
     requires ready { IsReady shared.now progress }
     requires limit { IfSome settings.now.connections (λ limit. progress.connections ≤ limit) }
+    requires tracks { HaveTracks (handoff_of shared.now) tracks }
     ensures served { IfOk result (λ came. HasServed shared.now progress came.0) }
     ensures ready { IfOk result (λ came. IsReady shared.now came.0) }
     ensures limit { IfOk result (λ came.
         IfSome settings.now.connections (λ limit. came.0.connections ≤ limit)) }
+    ensures tracks { IfOk result (λ came. HaveTracks (handoff_of shared.now) came.1.tracks) }
 {
     let has_ended = AtomicBool::new(false);
     thread::scope(
         thread::scope_env(),
         rt,
-        |scope| -> Result<(Progress, Console<I, O>, Asked), ServeFault>
+        |scope| -> Result<(Progress, Hearing<C>), ServeFault>
             requires workers { (1 ≤ length waits.workers.items) × (length waits.workers.items ≤ 64) }
             requires ready { IsReady shared.now progress }
             requires limit { IfSome settings.now.connections
                 (λ limit. progress.connections ≤ limit) }
+            requires tracks { HaveTracks (handoff_of shared.now) tracks }
             ensures served { IfOk result (λ came. HasServed shared.entry.now progress came.0) }
             ensures ready { IfOk result (λ came. IsReady shared.entry.now came.0) }
             ensures limit { IfOk result (λ came.
                 IfSome settings.entry.now.connections (λ limit. came.0.connections ≤ limit)) }
+            ensures tracks { IfOk result (λ came.
+                HaveTracks (handoff_of shared.entry.now) came.1.tracks) }
         {
             let (stop, has_ended) = (&stop, &has_ended);
-            let hearing = scope.spawn(move || {
-                let mut console = console;
-                let asked = console.hear(rt, alloc, shared, stop, has_ended);
-                (console, asked)
-            });
+            let promise = KnowsTracks {
+                shared: Snapshot::of(shared),
+            };
+            let hearing = scope.spawn_with(
+                promise,
+                move || -> Hearing<C>
+                    requires { HaveTracks (handoff_of shared.now) tracks }
+                    ensures { HaveTracks (handoff_of shared.entry.now) result.tracks }
+                { hear(rt, alloc, shared, console, tracks, stop, has_ended) },
+            );
             let Ok(heard) = hearing else {
                 return Err(ServeFault::NoThread);
             };
             let served = serve_period(rt, alloc, listener, shared, progress, settings, stop, waits);
             has_ended.store(true, Ordering::SeqCst);
-            let (console, asked) = heard.join(rt);
+            let hearing = heard.join(rt);
             match served {
-                Ok(progress) => Ok((progress, console, asked)),
+                Ok(progress) => Ok((progress, hearing)),
                 Err(fault) => Err(fault),
             }
         },
@@ -213,22 +226,23 @@ where
 }
 
 /// A period of a server that was paused, while its operator is heard.
-pub(crate) fn serve_on<T, I, O>(
+pub(crate) fn serve_on<T, C>(
     rt: &T,
     alloc: Global,
     listener: &TcpListener,
     paused: Paused,
     settings: &UntilSettings,
-    console: Console<I, O>,
-) -> Result<Period<I, O>, ServeFault>
+    console: Console<C>,
+    tracks: HandoffTracks,
+) -> Result<Period<C>, ServeFault>
 where
     T: Log + Clock + Net + Threads + Wait + Sync,
-    I: Read + Send + Drop,
-    O: Write + Send + Drop,
+    C: Read + Write + Send + Drop,
     requires workers { (1 ≤ settings.now.workers) × (settings.now.workers ≤ 64) }
     requires ready { IsReady paused.shared paused.progress }
     requires limit { IfSome settings.now.connections
         (λ limit. paused.progress.connections ≤ limit) }
+    requires tracks { HaveTracks (handoff_of paused.shared) tracks }
     ensures shared { IfOk result (λ period. period.paused.shared ≡ paused.shared) }
     ensures served { IfOk result (λ period.
         HasServed paused.shared paused.progress period.paused.progress) }
@@ -236,6 +250,8 @@ where
         IsReady period.paused.shared period.paused.progress) }
     ensures limit { IfOk result (λ period. IfSome settings.now.connections
         (λ limit. period.paused.progress.connections ≤ limit)) }
+    ensures tracks { IfOk result (λ period.
+        HaveTracks (handoff_of period.paused.shared) period.hearing.tracks) }
 {
     let (waits, stop) = match new_run_waits(rt, alloc, settings.workers) {
         Ok(made) => made,
@@ -243,13 +259,12 @@ where
     };
     let Paused { shared, progress } = paused;
     let came = serve_and_hear(
-        rt, alloc, listener, &shared, progress, settings, console, stop, waits,
+        rt, alloc, listener, &shared, progress, settings, console, tracks, stop, waits,
     );
     match came {
-        Ok((progress, console, asked)) => Ok(Period {
+        Ok((progress, hearing)) => Ok(Period {
             paused: Paused { shared, progress },
-            console,
-            asked,
+            hearing,
         }),
         Err(fault) => Err(fault),
     }

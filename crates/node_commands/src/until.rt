@@ -6,7 +6,7 @@ ghost use Rattle.node_commands.specs.Runs.{AreTold, IsServedUntil, IsTallied};
 
 use crate::fault::{ServeFault, setup_fault};
 use crate::gates::new_shared;
-use crate::lines::conclude;
+use crate::lines::{announce, conclude};
 use crate::serving::serve_fault;
 use gate_node::{Open, Passes, RunTallies, Shared, tallies_of};
 use log::Log;
@@ -22,7 +22,7 @@ use std::net::{Net, TcpListener};
 use std::rt::Clock;
 use std::sync::Wait;
 use std::thread::{Scope, Threads};
-use std::{io, slice, thread};
+use std::{slice, thread};
 
 /// How a server for as many clients as come serves.
 #[derive(Clone, Copy)]
@@ -52,13 +52,6 @@ pub struct ServedUntil<'a, T> {
     pub connections: u64,
     /// How many of them were closed before they came to a worker, for want of memory.
     pub closed: u64,
-}
-
-/// Writes where the listener listens, in a line, as far as that can be done.
-fn announce<W: Write>(listener: &TcpListener, writer: &mut W) -> io::Result<()> {
-    let address = listener.local_addr()?;
-    writeln!(writer, "listening {address}")?;
-    writer.flush()
 }
 
 /// Starts a thread that raises the stop at the end of an input, if there is one.

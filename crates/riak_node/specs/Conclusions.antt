@@ -6,7 +6,7 @@ use Rattle.node_commands.specs.Lines.{serve_fault_text}
 use Rattle.schedule_player.specs.declared.fault.StepsFault.{StepsFault}
 use Rattle.schedule_player.specs.declared.fault.StepsFault.TheVariants.{BadStep, ReadFailed, WriteFailed, NoMemory}
 use Rattle.riak_node.specs.declared.conclusion.Conclusion.{Conclusion}
-use Rattle.riak_node.specs.declared.conclusion.Conclusion.TheVariants.{Piped, Served, CannotListen, Played, NoRing, NoAddress, NotText, HelpNotWritten}
+use Rattle.riak_node.specs.declared.conclusion.Conclusion.TheVariants.{Piped, Served, CannotListen, CannotListenForControl, Played, NoRing, NoAddress, NotText, HelpNotWritten}
 use Rattle.riak_node.specs.declared.conclusion.Conclusion.TheVariants as conclusions
 
 -- a line of the program on standard error
@@ -36,6 +36,7 @@ line_of (Piped (Err fault)) = fault_line fault
 line_of (Served (Ok unit)) = []
 line_of (Served (Err fault)) = error_line (serve_fault_text fault)
 line_of CannotListen = error_line (codes "cannot listen")
+line_of CannotListenForControl = error_line (codes "cannot listen for control")
 line_of (Played (Ok unit)) = []
 line_of (Played (Err fault)) = steps_fault_line fault
 line_of NoRing = error_line (codes "ring must be a power of two from 1 to 1024")
@@ -50,6 +51,7 @@ status_of (Piped outcome) = exit_status outcome
 status_of (Served (Ok unit)) = 0
 status_of (Served (Err fault)) = 1
 status_of CannotListen = 1
+status_of CannotListenForControl = 1
 status_of (Played (Ok unit)) = 0
 status_of (Played (Err fault)) = 1
 status_of NoRing = 2

@@ -68,6 +68,7 @@ module _ (found : Found) where
     pub ring : IsNumber 0 65535 (codes "ring") 64 options.ring
     pub until_eof : IsFlag (codes "until-eof") options.until_eof
     pub control : IsFlag (codes "control") options.control
+    pub control_port : IsNumberIfGiven 65535 (codes "control-port") options.control_port
     pub serving : AreServingOptions options.serving
 
   pub record AreStepsOptions (options : StepsOptions) : Type 0 where

@@ -39,6 +39,8 @@ fn bare_serve<'a>(alloc: Global) -> clap::Command<'a> {
              fallback; copy P B, at most B of its keys are copied back, and whether some are left; return P, it is at its\n\
              primary again; stop, serving ends in order. What can't be done is answered by why, as in: refused: no such\n\
              command.\n\n\
+             With --control-port operators write these lines to that port and read the answers there, one behind another. Its\n\
+             address is a line before the other two, as in: control 127.0.0.1:8088.\n\n\
              Exit status: 0 at the end of standard input with --until-eof or --control, at stop, and when all connections\n\
              of --connections have ended, also those that failed; 1 where serving had to stop before, with one line on\n\
              standard error, as in: riak_node: cannot listen; 2 for a command line that isn't one of these.\n\n\
@@ -54,6 +56,7 @@ fn serve<'a>(alloc: Global) -> Result<clap::Command<'a>, AllocError> {
         .arg(options::idle(alloc))?
         .arg(options::until_eof(alloc))?
         .arg(options::control(alloc))?
+        .arg(options::control_port(alloc)?)?
         .arg(options::connections(alloc))?
         .arg(options::workers(alloc))?
         .arg(options::ring(alloc, "64"))?

@@ -19,6 +19,8 @@ pub enum Conclusion {
     Served(Result<(), ServeFault>),
     /// `serve` had no listener. Status 1.
     CannotListen,
+    /// `serve` had no listener for an operator's clients. Status 1.
+    CannotListenForControl,
     /// `steps` came to the end of its schedule, or stopped before. Status 0 or 1.
     Played(Result<(), StepsFault>),
     /// There is no ring of the size that is asked for. Status 2.
@@ -88,6 +90,9 @@ impl Conclusion {
             Conclusion::Served(Ok(())) | Conclusion::Played(Ok(())) => Ok(()),
             Conclusion::Served(Err(fault)) => writeln!(writer, "riak_node: {fault}"),
             Conclusion::CannotListen => write_error(writer, "cannot listen"),
+            Conclusion::CannotListenForControl => {
+                write_error(writer, "cannot listen for control")
+            }
             Conclusion::Played(Err(fault)) => write_steps_fault(writer, fault),
             Conclusion::NoRing => {
                 write_error(writer, "ring must be a power of two from 1 to 1024")
@@ -109,7 +114,8 @@ impl Conclusion {
             Conclusion::Piped(outcome) => exit_status(outcome),
             Conclusion::Served(Ok(())) | Conclusion::Played(Ok(())) => 0,
             Conclusion::Served(Err(_)) | Conclusion::Played(Err(_)) => 1,
-            Conclusion::CannotListen | Conclusion::NoMemory | Conclusion::HelpNotWritten => 1,
+            Conclusion::CannotListen | Conclusion::CannotListenForControl => 1,
+            Conclusion::NoMemory | Conclusion::HelpNotWritten => 1,
             Conclusion::NoRing | Conclusion::NoAddress | Conclusion::NotText => 2,
         }
     }

@@ -2,7 +2,7 @@
 //!
 //! `riak_node serve` serves connections, each a stream of requests of Riak's Protocol Buffers client API in frames, and their replies in
 //! frames. `riak_node pipe` serves standard input to standard output in the same way. `riak_node steps` plays a schedule of workers' steps,
-//! a line in and a line out. With `--control` an operator says on standard input what `serve` is to do.
+//! a line in and a line out. With `--control` an operator says on standard input what `serve` is to do, and with `--control-port` over TCP.
 //!
 //! ```text
 //! $ riak_node serve --until-eof < /dev/tty
@@ -13,6 +13,11 @@
 //! diverted 3
 //! returned 3
 //! gets 0 puts 0 deletes 0 refusals 0 reaps 0
+//! $ riak_node serve --control-port 0 &
+//! control 127.0.0.1:40003
+//! listening 127.0.0.1:8087
+//! $ printf 'divert 3\n' | nc -N 127.0.0.1 40003
+//! diverted 3
 //! $ printf '\0\0\0\1\1' | riak_node pipe | xxd -p      a ping
 //! 0000000102
 //! ```
@@ -32,13 +37,16 @@ ghost use Rattle.riak_node.specs.Conclusions.{status_of};
 mod command_line;
 mod commands;
 mod conclusion;
+mod control_port;
 mod drained_console;
 mod frame_counter;
+mod listeners;
 mod log_time;
 mod option_values;
 mod options;
 mod serving;
 mod subcommand;
+mod terminal;
 mod watch;
 mod watched_input;
 
@@ -47,7 +55,8 @@ use commands::{pipe_as_asked, place_of, ring_of, steps_as_asked};
 use conclusion::Conclusion;
 use drained_console::DrainedConsole;
 use frame_counter::FrameCounter;
-use log::{Level, Log, Logged, warn};
+use listeners::{control_port_of, listen};
+use log::{Level, Log, Logged};
 use node_session::SessionFault;
 use ring_map::Ring;
 use schedule_player::StepsFault;
@@ -56,13 +65,11 @@ use std::alloc::Global;
 use std::io;
 use std::io::{BufWriter, Read, Write};
 use std::net::{IpAddr, Net, TcpListener, TcpStream};
-use std::os::fd::AsRawFd;
 use std::process::ExitCode;
 use std::rt::Clock;
 use std::sync::Wait;
 use std::thread::Threads;
 use subcommand::{PipeOptions, ServeOptions, StepsOptions, Subcommand};
-use watch::STANDARD_ERROR;
 
 /// Writes the line that a command ends with on standard error, and returns its status, which is the same where the line can't be written.
 fn conclude(rt: &HostRuntime, conclusion: Conclusion) -> ExitCode
@@ -124,27 +131,6 @@ fn serve_streams(rt: &HostRuntime, options: PipeOptions) -> Conclusion {
     }
 }
 
-/// A listener on this address and port. None where there is none, and where a standard stream was closed before the program began: sockets
-/// would get its descriptor, and what is printed or logged would go to clients. The log says why.
-fn listen<R: Log + Net<Listener = TcpListener, Stream = TcpStream>>(
-    rt: &R,
-    address: IpAddr,
-    port: u16,
-) -> Option<TcpListener> {
-    let listener = match TcpListener::bind(rt, (address, port)) {
-        Ok(listener) => listener,
-        Err(error) => {
-            warn!(rt; "cannot listen on {address}, port {port}: {error}");
-            return None;
-        }
-    };
-    if listener.as_raw_fd() <= STANDARD_ERROR {
-        warn!(rt; "a standard stream is closed");
-        return None;
-    }
-    Some(listener)
-}
-
 /// Serves the connections that come to this address and port, on this ring, as the options ask for.
 fn serve_all<R, I, O>(
     rt: &R,
@@ -158,12 +144,16 @@ fn serve_all<R, I, O>(
 where
     R: Log + Clock + Net<Listener = TcpListener, Stream = TcpStream> + Threads + Wait + Sync,
     I: Read + Send + Drop,
-    O: Write + Send + Drop,
+    O: Write + Copy + Send + Drop,
 {
     let Some(listener) = listen(rt, address, options.port) else {
         return Conclusion::CannotListen;
     };
-    let outcome = serve_by_options(rt, alloc, listener, ring, options, input, output);
+    let control = match control_port_of(rt, alloc, options.control_port) {
+        Ok(control) => control,
+        Err(end) => return end,
+    };
+    let outcome = serve_by_options(rt, alloc, listener, ring, options, control, input, output);
     Conclusion::Served(ended(&outcome))
 }
 

@@ -97,6 +97,7 @@ fn serve_options(found: &ArgMatches<'_>) -> ServeOptions
         ring: small_number(found, "ring", 64),
         until_eof: found.get_flag("until-eof"),
         control: found.get_flag("control"),
+        control_port: found.get_one::<u16>("control-port"),
         serving: serving_options(found),
     }
 }

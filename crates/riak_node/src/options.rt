@@ -2,7 +2,7 @@
 
 use clap::builder::ValueParser;
 use clap::{Arg, ArgAction, value_parser};
-use std::alloc::Global;
+use std::alloc::{AllocError, Global};
 
 /// An option whose value is a number, with the one that it has where it isn't given.
 fn number<'a>(
@@ -71,6 +71,19 @@ pub(crate) fn control<'a>(alloc: Global) -> Arg<'a> {
         .help(
             "Take an operator's commands from standard input, one a line, and answer each by one line on standard output. The end of standard input is as stop, with --until-eof or without",
         )
+}
+
+/// The port of an operator's console.
+pub(crate) fn control_port<'a>(alloc: Global) -> Result<Arg<'a>, AllocError> {
+    Arg::new(alloc, "control-port")
+        .long("control-port")
+        .value_name("N")
+        .value_parser(value_parser!(u16))
+        .help(
+            "Take an operator's commands over TCP from one client behind another, at port N of 127.0.0.1, or with 0 at a free one, which a line before the first names. Only stop ends serving, and no client's end does. Not with --control, nor with --until-eof",
+        )
+        .conflicts_with("control")?
+        .conflicts_with("until-eof")
 }
 
 /// The port.

@@ -1,9 +1,11 @@
 //! Serving as the options of `serve` ask for: by an operator's console, or without one.
 
 ghost use Rattle.std.specs.Prelude.{◌≡◌, None, Err, false, is_some, IfErr, IfOk};
-ghost use Rattle.riak_node.specs.Serving.{IsServedAs};
+ghost use Rattle.riak_node.specs.Serving.{AsksForConsole, IsServedAs};
 
+use crate::control_port::ControlPort;
 use crate::subcommand::ServeOptions;
+use crate::terminal::Terminal;
 use crate::watched_input::WatchedInput;
 use log::Log;
 use node_commands::{Controlled, ServeFault, ServedUntil, serve_as_asked, serve_as_controlled};
@@ -50,48 +52,61 @@ fn input_of<R: Net, I: Drop>(
     }
 }
 
-/// Serves the connections of a listener on this ring, by the console of standard input and output where these options ask for one; else
-/// until as many have ended as are asked for, or standard input ends, where that is asked for. The console's input ends it, too.
+/// Serves the connections of a listener on this ring while an operator is heard over this channel, as the options ask for.
+fn serve_by_console<'a, T, C, W>(
+    rt: &'a T,
+    alloc: Global,
+    listener: TcpListener,
+    ring: Ring,
+    options: ServeOptions,
+    operator: C,
+    writer: &mut W,
+) -> Result<ServeOutcome<'a, T>, ServeFault>
+where
+    T: Log + Clock + Net + Threads + Wait + Sync,
+    C: Read + Write + Send + Drop,
+    W: Write,
+    requires { AsksForConsole options }
+    ensures { IfOk result (IsServedAs options ring) }
+{
+    match serve_as_controlled(rt, alloc, listener, ring, options.serving, operator, writer) {
+        Ok(outcome) => Ok(ServeOutcome::Controlled(outcome)),
+        Err(fault) => Err(fault),
+    }
+}
+
+/// Serves the connections of a listener on this ring, by a console where these options ask for one: over this control port, or else over standard input and
+/// output, whose end ends serving; without one until as many have ended as are asked for, or standard input ends, where that is asked for.
 pub(crate) fn serve_by_options<'a, T, I, O>(
     rt: &'a T,
     alloc: Global,
     listener: TcpListener,
     ring: Ring,
     options: ServeOptions,
+    control: Option<ControlPort>,
     input: I,
     mut output: O,
 ) -> Result<ServeOutcome<'a, T>, ServeFault>
 where
     T: Log + Clock + Net + Threads + Wait + Sync,
     I: Read + Send + Drop,
-    O: Write + Send + Drop,
+    O: Write + Copy + Send + Drop,
+    requires { is_some control ≡ is_some options.control_port }
     ensures { IfOk result (IsServedAs options ring) }
 {
-    if options.control {
-        let console = WatchedInput::new(rt, alloc, input);
-        return match serve_as_controlled(
-            rt,
-            alloc,
-            listener,
-            ring,
-            options.serving,
-            console,
-            output,
-        ) {
-            Ok(outcome) => Ok(ServeOutcome::Controlled(outcome)),
-            Err(fault) => Err(fault),
-        };
+    if let Some(port) = control {
+        let _unheard = port.announce(&mut output);
+        return serve_by_console(rt, alloc, listener, ring, options, port, &mut output);
     }
-    let until = input_of(rt, alloc, options.until_eof, input);
-    match serve_as_asked(
-        rt,
-        alloc,
-        listener,
-        ring,
+    if options.control {
+        let terminal = Terminal::new(WatchedInput::new(rt, alloc, input), output);
+        return serve_by_console(rt, alloc, listener, ring, options, terminal, &mut output);
+    }
+    let (serving, until) = (
         options.serving,
-        until,
-        &mut output,
-    ) {
+        input_of(rt, alloc, options.until_eof, input),
+    );
+    match serve_as_asked(rt, alloc, listener, ring, serving, until, &mut output) {
         Ok(outcome) => Ok(ServeOutcome::Asked(outcome)),
         Err(fault) => Err(fault),
     }

@@ -41,6 +41,8 @@ pub struct ServeOptions {
     pub until_eof: bool,
     /// Whether standard input is an operator's console.
     pub control: bool,
+    /// The port of this machine's address to itself to which an operator's clients come, if they do; 0 for a free one.
+    pub control_port: Option<u16>,
     /// How they are served.
     pub serving: ServingOptions,
 }

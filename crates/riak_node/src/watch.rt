@@ -1,4 +1,4 @@
-//! Whether a standard stream can be read or written without waiting.
+//! Whether a descriptor can be read or written without waiting.
 
 use mio::unix::SourceFd;
 use mio::{Events, Interest, Poll, Token};
@@ -10,7 +10,7 @@ use std::time::Duration;
 /// The greatest descriptor of the standard streams.
 pub(crate) const STANDARD_ERROR: i32 = 2;
 
-/// Tells whether a standard stream can be read, or written, without waiting.
+/// Tells whether a standard stream or a listener can be read, or written, without waiting. A listener can be read where a connection has come.
 #[derive(Drop)]
 pub(crate) struct Watch {
     descriptor: i32,
@@ -20,7 +20,7 @@ pub(crate) struct Watch {
 }
 
 impl Watch {
-    /// Of the stream with this descriptor, if it can be watched: a file can't, and is never waited for. Where a standard stream was closed
+    /// Of what has this descriptor, if it can be watched: a file can't, and is never waited for. Where a standard stream was closed
     /// before the program began, the poll would get its descriptor, and is let go: who listens then finds that descriptor free.
     pub(crate) fn new<R: Net>(
         net: &R,
@@ -44,7 +44,7 @@ impl Watch {
         })
     }
 
-    /// Whether the stream is ready, or is so within this time. Also where that can't be found out.
+    /// Whether it is ready, or is so within this time. Also where that can't be found out.
     pub(crate) fn is_ready(&mut self, limit: Duration) -> bool {
         // readiness is reported at its change alone, or when it is asked for anew
         let mut source = SourceFd(&self.descriptor);

@@ -18,30 +18,7 @@ use std::thread::Threads;
 use std::time::Duration;
 use std::{io, thread};
 
-/// An operator's lines, behind which nothing comes until they are said to have ended.
-#[derive(Drop)]
-struct Operator<'a, R> {
-    rt: &'a R,
-    lines: &'static [u8],
-    has_ended: &'a AtomicBool,
-}
-
-impl<'a, R: Clock> Read for Operator<'a, R> {
-    fn read(&mut self, buf: &mut [u8]) -> io::Result<usize> {
-        if let (Some(byte), Some(place)) = (self.lines.first(), buf.first_mut()) {
-            *place = *byte;
-            self.lines = &self.lines[1..];
-            return Ok(1);
-        }
-        if self.has_ended.load(Ordering::SeqCst) {
-            return Ok(0);
-        }
-        thread::sleep(self.rt, Duration::from_millis(1));
-        Err(ErrorKind::WouldBlock.into())
-    }
-}
-
-/// Takes the line of the address, and then just the text that is due.
+/// Takes the line of the address, where it comes first, and then just the text that is due.
 #[derive(Drop)]
 struct Transcript<'a> {
     is_begun: bool,
@@ -93,15 +70,65 @@ impl<'a> Write for Transcript<'a> {
     }
 }
 
-/// A server with a console, on a ring of one partition: what its operator says and is told, and what its clients do.
+/// Operators over one channel, one behind another: the lines of each, behind the last of which nothing comes until they are said to have ended, and what they
+/// are answered.
+#[derive(Drop)]
+struct Operators<'a, R> {
+    rt: &'a R,
+    lines: &'static [u8],
+    next: &'static [&'static [u8]],
+    has_ended: &'a AtomicBool,
+    answers: Transcript<'a>,
+}
+
+impl<'a, R: Clock> Read for Operators<'a, R> {
+    fn read(&mut self, buf: &mut [u8]) -> io::Result<usize> {
+        if let (Some(byte), Some(place)) = (self.lines.first(), buf.first_mut()) {
+            *place = *byte;
+            self.lines = &self.lines[1..];
+            return Ok(1);
+        }
+        if let Some(lines) = self.next.first() {
+            self.lines = *lines;
+            self.next = &self.next[1..];
+            return Err(ErrorKind::ConnectionReset.into());
+        }
+        if self.has_ended.load(Ordering::SeqCst) {
+            return Ok(0);
+        }
+        thread::sleep(self.rt, Duration::from_millis(1));
+        Err(ErrorKind::WouldBlock.into())
+    }
+}
+
+impl<'a, R> Write for Operators<'a, R> {
+    ghost use Rattle.std.specs.Prelude.{None};
+
+    ghost contents = { λ _. None };
+
+    fn write(&mut self, buf: &[u8]) -> io::Result<usize> {
+        self.answers.write(buf)
+    }
+
+    fn flush(&mut self) -> io::Result<()> {
+        self.answers.flush()
+    }
+}
+
+/// A server with a console, on a ring of one partition: what its operators say and are answered, the totals at its end, and what its clients do.
 struct Controls {
     shows: &'static str,
     workers: u16,
-    lines: &'static [u8],
-    told: &'static [u8],
+    operators: &'static [&'static [u8]],
+    answers: &'static [u8],
     steps: &'static [Step],
     connections: u64,
+    /// How many diversions of the partition have returned, of which all calls are known.
+    returned: u64,
 }
+
+/// The totals of servers whose clients ask for nothing but pings.
+const TOTALS: &[u8] = b"gets 0 puts 0 deletes 0 refusals 0 reaps 0\n";
 
 /// A client whose ping comes byte by byte, and one that has sent the half of one.
 const PINGS: &[Step] = &[
@@ -127,37 +154,68 @@ const SERVERS: &[Controls] = &[
     Controls {
         shows: "each command has its answer, and each refusal its reason",
         workers: 1,
-        lines: b"totals\ncopy 0 1\nreturn 0\ndivert 0\ndivert 0\ncopy 0 1\nreturn 0\ncopy 0 1\ndivert 1\ncopy 7 1\nreturn 9\nDivert 0\ndivert 0\r\nstop\ntotals\n",
-        told: b"gets 0 puts 0 deletes 0 refusals 0 reaps 0 connections 0\nrefused: partition 0 isn't diverted\nrefused: partition 0 isn't diverted\ndiverted 0\nrefused: partition 0 is diverted already\ncopied 0 keys 0 whole\nreturned 0\nrefused: partition 0 isn't diverted\nrefused: there is no partition 1\nrefused: there is no partition 7\nrefused: there is no partition 9\nrefused: no such command\ndiverted 0\ngets 0 puts 0 deletes 0 refusals 0 reaps 0\n",
+        operators: &[
+            b"totals\ncopy 0 1\nreturn 0\ndivert 0\ndivert 0\ncopy 0 1\nreturn 0\ncopy 0 1\ndivert 1\ncopy 7 1\nreturn 9\nDivert 0\ndivert 0\r\nstop\ntotals\n",
+        ],
+        answers: b"gets 0 puts 0 deletes 0 refusals 0 reaps 0 connections 0\nrefused: partition 0 isn't diverted\nrefused: partition 0 isn't diverted\ndiverted 0\nrefused: partition 0 is diverted already\ncopied 0 keys 0 whole\nreturned 0\nrefused: partition 0 isn't diverted\nrefused: there is no partition 1\nrefused: there is no partition 7\nrefused: there is no partition 9\nrefused: no such command\ndiverted 0\n",
         steps: &[],
         connections: 0,
+        returned: 1,
     },
     Controls {
         shows: "clients go on through pauses, and are ended with the input",
         workers: 2,
-        lines: b"divert 0\ncopy 0 9\nreturn 0\ndivert 0\nreturn 0\ndivert 0\nreturn 0\n",
-        told: b"diverted 0\ncopied 0 keys 0 whole\nreturned 0\ndiverted 0\nreturned 0\ndiverted 0\nreturned 0\ngets 0 puts 0 deletes 0 refusals 0 reaps 0\n",
+        operators: &[b"divert 0\ncopy 0 9\nreturn 0\ndivert 0\nreturn 0\ndivert 0\nreturn 0\n"],
+        answers: b"diverted 0\ncopied 0 keys 0 whole\nreturned 0\ndiverted 0\nreturned 0\ndiverted 0\nreturned 0\n",
         steps: PINGS,
         connections: 2,
+        returned: 3,
     },
     Controls {
         shows: "a line of more than 64 bytes is refused, and one without its end isn't obeyed",
         workers: 1,
-        lines: b"divert 000000000000000000000000000000000000000000000000000000000000000000\ndivert 0\n\nreturn 0",
-        told: b"refused: no such command\ndiverted 0\nrefused: no such command\ngets 0 puts 0 deletes 0 refusals 0 reaps 0\n",
+        operators: &[
+            b"divert 000000000000000000000000000000000000000000000000000000000000000000\ndivert 0\n\nreturn 0",
+        ],
+        answers: b"refused: no such command\ndiverted 0\nrefused: no such command\n",
         steps: &[Step::InputEnds],
         connections: 0,
+        returned: 0,
+    },
+    Controls {
+        shows: "a line whose operator has gone isn't obeyed, nor joined to the next one's",
+        workers: 1,
+        operators: &[
+            b"divert 0\nretu",
+            b"rn 0\n",
+            b"",
+            b"return 0\ndivert",
+            b"copy 0 1\nstop\n",
+        ],
+        answers: b"diverted 0\nrefused: no such command\nreturned 0\nrefused: partition 0 isn't diverted\n",
+        steps: &[],
+        connections: 0,
+        returned: 1,
     },
 ];
 
-/// Whether a server came to so many connections, all of which were served, and none of its vnodes took anything.
-fn has_served(outcome: &Result<Controlled, ServeFault>, connections: u64) -> bool {
+/// Whether all calls of the hand-offs of a server's one partition are known, so many of which have returned.
+fn knows_hand_offs(outcome: &Controlled, returned: u64) -> bool {
+    match outcome.tracks.tracks() {
+        [track] => track.returned() == Some(returned),
+        _ => false,
+    }
+}
+
+/// Whether a server came to so many connections, all of which were served, and none of its vnodes took anything; and to so many hand-offs.
+fn has_served(outcome: &Result<Controlled, ServeFault>, connections: u64, returned: u64) -> bool {
     match outcome {
         Ok(outcome) => {
             outcome.connections == connections
                 && outcome.closed == 0
                 && outcome.totals.puts == 0
                 && outcome.tallies.count_all
+                && knows_hand_offs(outcome, returned)
         }
         Err(_) => false,
     }
@@ -185,19 +243,27 @@ fn serves<R: Log + Clock + Net + Threads + Wait + Sync>(
         sweep: 0,
         idle_seconds: None,
     };
-    let left = AtomicUsize::new(1);
-    let operator = Operator {
+    let (unanswered, unwritten) = (AtomicUsize::new(1), AtomicUsize::new(1));
+    let operators = Operators {
         rt,
-        lines: controls.lines,
+        lines: b"",
+        next: controls.operators,
         has_ended,
+        answers: Transcript {
+            is_begun: true,
+            due: controls.answers,
+            left: &unanswered,
+        },
     };
-    let transcript = Transcript {
+    let mut writer = Transcript {
         is_begun: false,
-        due: controls.told,
-        left: &left,
+        due: TOTALS,
+        left: &unwritten,
     };
-    let outcome = serve_controlled(rt, alloc, listener, &settings, operator, transcript);
-    has_served(&outcome, controls.connections) && left.load(Ordering::SeqCst) == 0
+    let outcome = serve_controlled(rt, alloc, listener, &settings, operators, &mut writer);
+    has_served(&outcome, controls.connections, controls.returned)
+        && unanswered.load(Ordering::SeqCst) == 0
+        && unwritten.load(Ordering::SeqCst) == 0
 }
 
 // The threads are started in the test itself: both use the network, and of any runtime it isn't known that another thread may.

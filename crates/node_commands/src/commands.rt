@@ -1,0 +1,216 @@
+//! What an operator's commands do.
+
+ghost use Rattle.std.specs.Prelude.{◌≡◌, ◌<◌, ◌↔◌, ◌^◌, IsTrue};
+ghost use Rattle.gate_node.specs.Gates.{handoff_of};
+ghost use Rattle.handoff_tracks.specs.Tracks.{HaveTracks};
+ghost use Rattle.node_commands.specs.Console.{AnswersCopy, AnswersReturn, refusal_of};
+
+use crate::console::{Console, Heard};
+use control_text::{Answer, Command, Refusal};
+use gate_node::Shared;
+use handoff::{Handoff, HandoffFault};
+use handoff_tracks::HandoffTracks;
+use socket_streams::Stop;
+use std::alloc::Global;
+use std::io::{Read, Write};
+use std::rt::Clock;
+use std::sync::Wait;
+use std::sync::atomic::AtomicBool;
+
+/// What a server is paused or stopped for.
+#[derive(Clone, Copy, Drop)]
+pub(crate) enum Asked {
+    /// Nothing: it ended by itself.
+    Nothing,
+    /// To tell its totals.
+    Totals,
+    /// To divert this partition, which it has.
+    Divert(u16),
+    /// To stop.
+    Stop,
+}
+
+/// Why a command that names this partition wasn't done.
+pub(crate) fn refusal_of(partition: u16, fault: &HandoffFault) -> Refusal
+    ensures { result ≡ refusal_of partition fault.now }
+{
+    match fault {
+        HandoffFault::AlreadyDiverted => Refusal::AlreadyDiverted(partition),
+        HandoffFault::NotDiverted(_) => Refusal::NotDiverted(partition),
+        HandoffFault::LeftOver(_) => Refusal::LeftOver(partition),
+        HandoffFault::NoMemory => Refusal::NoMemory,
+        HandoffFault::GateStopped => Refusal::GateStopped(partition),
+    }
+}
+
+/// Whether there is a partition of this index.
+pub(crate) fn has_partition(shared: &Shared, partition: u16) -> bool
+    ensures { IsTrue result ↔ partition < 2 ^ shared.now.index_bits }
+{
+    usize::from(partition) < shared.gates().len()
+}
+
+/// Copies keys of a partition back, while calls go on.
+fn copy<X: Wait>(
+    rt: &X,
+    alloc: Global,
+    handoff: &Handoff,
+    tracks: &mut HandoffTracks,
+    partition: u16,
+    budget: u32,
+) -> Answer
+    requires partition { partition < 2 ^ handoff.now.index_bits }
+    requires tracks { HaveTracks handoff.now tracks.old }
+    ensures answers { AnswersCopy handoff.now partition budget result }
+    ensures tracks { HaveTracks handoff.now tracks.new }
+{
+    match tracks.copy_back(rt, alloc, handoff, partition, budget) {
+        Ok(copied) => Answer::Copied {
+            partition,
+            keys: u64::from(copied.keys),
+            left: copied.left > 0,
+        },
+        Err(fault) => Answer::Refused(refusal_of(partition, &fault)),
+    }
+}
+
+/// Ends the diversion of a partition, while calls go on.
+fn finish_return<X: Wait>(
+    rt: &X,
+    alloc: Global,
+    handoff: &Handoff,
+    tracks: &mut HandoffTracks,
+    partition: u16,
+) -> Answer
+    requires partition { partition < 2 ^ handoff.now.index_bits }
+    requires tracks { HaveTracks handoff.now tracks.old }
+    ensures answers { AnswersReturn handoff.now partition result }
+    ensures tracks { HaveTracks handoff.now tracks.new }
+{
+    match tracks.finish_return(rt, alloc, handoff, partition) {
+        Ok(()) => Answer::Returned(partition),
+        Err(fault) => Answer::Refused(refusal_of(partition, &fault)),
+    }
+}
+
+impl<C: Read + Write> Console<C> {
+    /// Has the workers paused for this, and returns it; refuses it where no memory is kept back by which they could be started again.
+    fn pause_for(&mut self, stop: &Stop, asked: Asked) -> Option<Asked> {
+        if !self.can_pause() {
+            self.answer(Answer::Refused(Refusal::NoMemory));
+            return None;
+        }
+        stop.pause();
+        Some(asked)
+    }
+
+    /// Does a command on a partition that there is: one that needs no pause.
+    fn obey_at<X: Wait>(
+        &mut self,
+        rt: &X,
+        alloc: Global,
+        shared: &Shared,
+        stop: &Stop,
+        tracks: &mut HandoffTracks,
+        command: Command,
+        partition: u16,
+    ) -> Option<Asked>
+        requires partition { partition < 2 ^ shared.now.index_bits }
+        requires tracks { HaveTracks (handoff_of shared.now) tracks.old }
+        ensures tracks { HaveTracks (handoff_of shared.now) tracks.new }
+    {
+        match command {
+            Command::Divert(_) => return self.pause_for(stop, Asked::Divert(partition)),
+            Command::Copy { budget, .. } => {
+                self.answer(copy(rt, alloc, shared.handoff(), tracks, partition, budget));
+            }
+            Command::Return(_) => {
+                self.answer(finish_return(rt, alloc, shared.handoff(), tracks, partition));
+            }
+            Command::Totals | Command::Stop => {}
+        }
+        None
+    }
+
+    /// Does a command; where the workers are to be paused or stopped for it, says so to them, and returns what for.
+    fn obey<X: Wait>(
+        &mut self,
+        rt: &X,
+        alloc: Global,
+        shared: &Shared,
+        stop: &Stop,
+        tracks: &mut HandoffTracks,
+        command: Command,
+    ) -> Option<Asked>
+        requires { HaveTracks (handoff_of shared.now) tracks.old }
+        ensures { HaveTracks (handoff_of shared.now) tracks.new }
+    {
+        let partition = match command {
+            Command::Totals => return self.pause_for(stop, Asked::Totals),
+            Command::Stop => {
+                stop.raise();
+                return Some(Asked::Stop);
+            }
+            Command::Divert(partition) | Command::Return(partition) => partition,
+            Command::Copy { partition, .. } => partition,
+        };
+        if has_partition(shared, partition) {
+            return self.obey_at(rt, alloc, shared, stop, tracks, command, partition);
+        }
+        self.answer(Answer::Refused(Refusal::NoPartition(partition)));
+        None
+    }
+
+    /// Does what the line that has come asks for, or answers that it asks for nothing.
+    fn heed_line<X: Wait>(
+        &mut self,
+        rt: &X,
+        alloc: Global,
+        shared: &Shared,
+        stop: &Stop,
+        tracks: &mut HandoffTracks,
+    ) -> Option<Asked>
+        requires { HaveTracks (handoff_of shared.now) tracks.old }
+        ensures { HaveTracks (handoff_of shared.now) tracks.new }
+    {
+        match self.take_command() {
+            Some(command) => self.obey(rt, alloc, shared, stop, tracks, command),
+            None => {
+                self.answer(Answer::Refused(Refusal::BadCommand));
+                None
+            }
+        }
+    }
+
+    /// Tells what was kept, and does what the lines that come ask for, until one needs a pause or stops the node, the input ends, which stops it, or
+    /// serving has ended. A line without its line feed is none.
+    pub(crate) fn hear<X: Clock + Wait>(
+        &mut self,
+        rt: &X,
+        alloc: Global,
+        shared: &Shared,
+        stop: &Stop,
+        has_ended: &AtomicBool,
+        tracks: &mut HandoffTracks,
+    ) -> Asked
+        requires { HaveTracks (handoff_of shared.now) tracks.old }
+        ensures { HaveTracks (handoff_of shared.now) tracks.new }
+    {
+        self.tell_kept();
+        for _ in rt.forever() {
+            match self.read_line(rt, alloc, has_ended) {
+                Heard::Over => return Asked::Nothing,
+                Heard::End => {
+                    stop.raise();
+                    return Asked::Stop;
+                }
+                Heard::Line => {
+                    if let Some(asked) = self.heed_line(rt, alloc, shared, stop, tracks) {
+                        return asked;
+                    }
+                }
+            }
+        }
+        unreachable!()
+    }
+}
