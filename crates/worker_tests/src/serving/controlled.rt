@@ -222,11 +222,11 @@ fn has_served(outcome: &Result<Controlled, ServeFault>, connections: u64, return
 }
 
 /// Whether a server of this listener comes to what it should.
-fn serves<R: Log + Clock + Net + Threads + Wait + Sync>(
-    rt: &R,
+fn serves<'a, R: Log + Clock + Net + Threads + Wait + Sync>(
+    rt: &'a R,
     alloc: Global,
     listener: TcpListener,
-    has_ended: &AtomicBool,
+    has_ended: &'a AtomicBool,
     controls: &Controls,
 ) -> bool {
     let Some(ring) = Ring::new(1) else {
