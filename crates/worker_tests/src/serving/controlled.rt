@@ -73,15 +73,15 @@ impl<'a> Write for Transcript<'a> {
 /// Operators over one channel, one behind another: the lines of each, behind the last of which nothing comes until they are said to have ended, and what they
 /// are answered.
 #[derive(Drop)]
-struct Operators<'a, R> {
+struct Operators<'a, 'b, R> {
     rt: &'a R,
     lines: &'static [u8],
     next: &'static [&'static [u8]],
     has_ended: &'a AtomicBool,
-    answers: Transcript<'a>,
+    answers: Transcript<'b>,
 }
 
-impl<'a, R: Clock> Read for Operators<'a, R> {
+impl<'a, 'b, R: Clock> Read for Operators<'a, 'b, R> {
     fn read(&mut self, buf: &mut [u8]) -> io::Result<usize> {
         if let (Some(byte), Some(place)) = (self.lines.first(), buf.first_mut()) {
             *place = *byte;
@@ -101,7 +101,7 @@ impl<'a, R: Clock> Read for Operators<'a, R> {
     }
 }
 
-impl<'a, R> Write for Operators<'a, R> {
+impl<'a, 'b, R> Write for Operators<'a, 'b, R> {
     ghost use Rattle.std.specs.Prelude.{None};
 
     ghost contents = { λ _. None };
@@ -244,16 +244,17 @@ fn serves<'a, R: Log + Clock + Net + Threads + Wait + Sync>(
         idle_seconds: None,
     };
     let (unanswered, unwritten) = (AtomicUsize::new(1), AtomicUsize::new(1));
+    let answers = Transcript {
+        is_begun: true,
+        due: controls.answers,
+        left: &unanswered,
+    };
     let operators = Operators {
         rt,
         lines: b"",
         next: controls.operators,
         has_ended,
-        answers: Transcript {
-            is_begun: true,
-            due: controls.answers,
-            left: &unanswered,
-        },
+        answers,
     };
     let mut writer = Transcript {
         is_begun: false,
