@@ -1,0 +1,4 @@
+-- The lemmas of this crate.
+pub mod Counting
+pub mod Sums
+pub mod Walks

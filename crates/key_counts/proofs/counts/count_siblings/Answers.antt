@@ -1,0 +1,14 @@
+use Rattle.std.proofs.Common.{◌∙◌, ◌+◌, ◌-◌, ◌^◌, List, ap, sym, min, length}
+use Rattle.std.specs.Prelude.{Option}
+use Rattle.std.proofs.lemmas.List.{length-map}
+use Rattle.riak_msgs.specs.Contents.{Content}
+use Rattle.key_counts.proofs.Sums.{min-last}
+use Rattle.key_counts.proofs.counts.count_siblings.Goals as goal
+
+pub returns : goal.returns
+returns c =
+    let count = c.loop-sibling.count in
+    let most = 2 ^ 64 - 1 in
+    sym (min-last count most c.loop-sibling.invariant.0) ∙ ap (λ (vs : List (Option Content)). min (count + length vs) most) (sym c.in-None.ensures.steps.0) ∙ c.loop-sibling.invariant.1
+    ∙ ap (λ (vs : List (Option Content)). min (length vs) most) (c.into_iter-sibling-iterator.ensures.into_iter_gives ∙ c.values-sibling-items.ensures)
+    ∙ ap (λ n. min n most) (length-map c.args.stored.now.clock.meaning.live (λ entry. entry.1))

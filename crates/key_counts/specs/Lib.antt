@@ -1,0 +1,5 @@
+-- How much the vnodes of a hand-off store.
+pub mod Looks
+pub mod Partitions
+pub mod Stored
+pub mod Sums

@@ -1,0 +1,123 @@
+//! How much a vnode stores, counted key by key.
+
+ghost use Rattle.std.specs.Prelude.{◌≡◌, ◌-◌, ◌^◌, min, IfOk};
+ghost use Rattle.clock_store.specs.Keys.{stored_of};
+ghost use Rattle.vnode_machine.specs.Sound.{IsSound};
+ghost use Rattle.key_counts.specs.Sums.{capped, no_counts, plus};
+ghost use Rattle.key_counts.specs.Stored.{bytes_of, counts_in, is_dead, one_if, one_key};
+ghost use Rattle.key_counts.specs.Stored.{siblings_of, value_len};
+
+use clock_store::{StoredClock, given_parts};
+use riak_msgs::{Content, Key};
+use std::alloc::{AllocError, Global};
+use vnode_core::Vnode;
+
+/// How much is stored. Each number stops at 18,446,744,073,709,551,615.
+#[derive(Clone, Copy, Drop, PartialEq, Eq)]
+pub struct KeyCounts {
+    /// How many keys are stored, dead ones among them.
+    pub keys: u64,
+    /// How many siblings they have together, tombstones among them.
+    pub siblings: u64,
+    /// How many of the keys are dead: all their siblings are tombstones.
+    pub dead_keys: u64,
+    /// How many bytes the values of all siblings have together; a tombstone has none.
+    pub value_bytes: u64,
+}
+
+impl KeyCounts {
+    /// Nothing is stored.
+    pub(crate) fn none() -> KeyCounts
+        ensures { result ≡ no_counts }
+    {
+        KeyCounts {
+            keys: 0,
+            siblings: 0,
+            dead_keys: 0,
+            value_bytes: 0,
+        }
+    }
+
+    /// These numbers and others together.
+    pub(crate) fn plus(self, more: KeyCounts) -> KeyCounts
+        ensures { result ≡ capped (plus self more) }
+    {
+        KeyCounts {
+            keys: self.keys.saturating_add(more.keys),
+            siblings: self.siblings.saturating_add(more.siblings),
+            dead_keys: self.dead_keys.saturating_add(more.dead_keys),
+            value_bytes: self.value_bytes.saturating_add(more.value_bytes),
+        }
+    }
+}
+
+/// How many bytes the value of a sibling has; a tombstone has none.
+fn value_len(sibling: &Option<Content>) -> u64
+    ensures { result ≡ value_len sibling.now }
+{
+    match sibling {
+        None => 0,
+        Some(content) => content.value().len() as u64,
+    }
+}
+
+/// How many siblings a key has, tombstones among them.
+fn count_siblings(stored: &StoredClock) -> u64
+    ensures { result ≡ min (siblings_of (stored_of stored.now)) (2 ^ 64 - 1) }
+{
+    let mut count: u64 = 0;
+    for _sibling in stored.clock.values() {
+        count = count.saturating_add(1);
+    }
+    count
+}
+
+/// How many bytes the values of a key's siblings have together.
+fn count_bytes(stored: &StoredClock) -> u64
+    ensures { result ≡ min (bytes_of (stored_of stored.now)) (2 ^ 64 - 1) }
+{
+    let mut count: u64 = 0;
+    for sibling in stored.clock.values() {
+        count = count.saturating_add(value_len(sibling));
+    }
+    count
+}
+
+/// 1 for a dead key, whose siblings are all tombstones, and 0 for another.
+fn count_dead(stored: &StoredClock) -> u64
+    ensures { result ≡ one_if (is_dead (stored_of stored.now)) }
+{
+    if stored.has_value() {
+        return 0;
+    }
+    1
+}
+
+/// What a key counts.
+fn count_key(stored: &StoredClock) -> KeyCounts
+    ensures { result ≡ capped (one_key (stored_of stored.now)) }
+{
+    KeyCounts {
+        keys: 1,
+        siblings: count_siblings(stored),
+        dead_keys: count_dead(stored),
+        value_bytes: count_bytes(stored),
+    }
+}
+
+/// What a vnode stores, counted key by key. Each key is copied, to go on from it: refused where memory is. It leaves the vnode as it is.
+pub fn count_keys(alloc: Global, vnode: &Vnode) -> Result<KeyCounts, AllocError>
+    requires { IsSound vnode.now.state }
+    ensures { IfOk result (λ counts. counts ≡ counts_in vnode.now.state) }
+{
+    let mut counts = KeyCounts::none();
+    let mut at: Option<Key> = None;
+    loop {
+        let Some((parts, stored)) = vnode.next_key(given_parts(at.as_ref())) else {
+            return Ok(counts);
+        };
+        let key = parts.to_key(alloc)?;
+        counts = counts.plus(count_key(stored));
+        at = Some(key);
+    }
+}
