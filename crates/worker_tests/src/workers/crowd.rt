@@ -1,11 +1,17 @@
 //! A run of forty workers, each of which serves one of forty sessions.
+ghost use Rattle.std.specs.Prelude.{◌+◌, ◌≤◌, length, vec_len, vec_capacity};
+ghost use Rattle.job_pool.specs.Lists.{Every};
+ghost use Rattle.gate_node.specs.Passes.{ArePassesOf};
+ghost use Rattle.session_pool.specs.Tellers.{IsNewSeat};
+
 use crate::exchanges::{NOTHING_ACCEPTED, NOTHING_COUNTED, new_shared};
 use crate::workers::runs::{GET_ABSENT, Run};
-use crate::workers::seats::seats_apart;
+use crate::workers::script::Wires;
+use crate::workers::seats::{TestSeat, seats_apart};
 use crate::workers::served::is_served;
-use crate::workers::sessions::{Sessions, TestServed, play};
+use crate::workers::sessions::{TestServed, play_new};
 use crate::workers::streams::Counts;
-use session_pool::{NoPause, Passes, Shared};
+use session_pool::{Passes, Shared};
 use stats_book::Totals;
 use std::alloc::Global;
 use std::process::Abort;
@@ -40,29 +46,52 @@ fn has_each_one(served: &TestServed) -> bool {
     served.sinks.len() == usize::from(WORKERS)
 }
 
-/// Whether each worker of a run over these gates serves one session as it should be.
-fn serve_forty<X: Threads + Wait + Sync>(rt: &X, alloc: Global, shared: &Shared) -> bool {
+/// Whether each worker of these seats serves one session over these gates as it should be.
+fn serve_seated<X: Threads + Wait + Sync>(
+    rt: &X,
+    shared: &Shared,
+    wires: Wires<'_>,
+    seats: Vec<TestSeat>,
+    seen: &mut Passes,
+) -> bool
+    requires seen { ArePassesOf shared.now seen.old }
+    requires count { (1 ≤ length seats.items) × (length seats.items ≤ 64) }
+    requires new { Every (IsNewSeat (λ sink. sink.ends.items)
+        (λ sink n. vec_len sink.ends + n ≤ vec_capacity sink.ends)) seats.items }
+{
+    match play_new(rt, shared, wires, FORTY, seats, seen) {
+        Ok(served) => is_served(&served, FORTY, true) && has_each_one(&served),
+        Err(_) => false,
+    }
+}
+
+/// The same by forty new seats.
+fn serve_forty<X: Threads + Wait + Sync>(
+    rt: &X,
+    shared: &Shared,
+    wires: Wires<'_>,
+    seen: &mut Passes,
+) -> bool
+    requires { ArePassesOf shared.now seen.old }
+{
+    match seats_apart(wires.alloc, WORKERS, wires.counts) {
+        Ok(seats) => serve_seated(rt, shared, wires, seats, seen),
+        Err(_) => false,
+    }
+}
+
+/// The same by new passes.
+fn serve_by_passes<X: Threads + Wait + Sync>(rt: &X, alloc: Global, shared: &Shared) -> bool {
     let Ok(counts) = Arc::new(alloc, Counts::new()) else {
         return false;
     };
-    let Ok(seats) = seats_apart(alloc, WORKERS, &counts) else {
-        return false;
-    };
-    let Ok(mut seen) = Passes::new(alloc, shared) else {
-        return false;
-    };
-    let sessions = Sessions {
+    let wires = Wires {
         alloc,
-        shared,
         counts: &counts,
         most: usize::MAX,
-        resting: Vec::new(alloc),
-        lines: FORTY.lines,
-        number: 0,
-        fails: false,
     };
-    match play(rt, shared, sessions, seats, &NoPause, &mut seen) {
-        Ok(served) => is_served(&served, FORTY, true) && has_each_one(&served),
+    match Passes::new(alloc, shared) {
+        Ok(mut seen) => serve_forty(rt, shared, wires, &mut seen),
         Err(_) => false,
     }
 }
@@ -70,7 +99,7 @@ fn serve_forty<X: Threads + Wait + Sync>(rt: &X, alloc: Global, shared: &Shared)
 /// The same over new gates.
 fn serve_anew<X: Threads + Wait + Sync>(rt: &X, alloc: Global) -> bool {
     match new_shared(alloc, FORTY.partitions, FORTY.budget) {
-        Some(shared) => serve_forty(rt, alloc, &shared),
+        Some(shared) => serve_by_passes(rt, alloc, &shared),
         None => false,
     }
 }

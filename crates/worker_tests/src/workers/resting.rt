@@ -13,13 +13,14 @@ mod turned;
 
 use crate::exchanges::NOTHING_COUNTED;
 use crate::workers::resting::counted::is_counted;
-use crate::workers::script::Line;
+use crate::workers::script::{Line, Wires};
 use crate::workers::seats::{TestSeat, new_seats};
 use crate::workers::sessions::{AfterLooks, Sessions, TestServed, TestSession, play};
 use crate::workers::streams::Counts;
 use session_pool::{Passes, Pause, Served, Shared};
 use stats_book::Totals;
 use std::alloc::Global;
+use std::mem;
 use std::sync::atomic::AtomicU64;
 use std::sync::{Arc, Wait};
 use std::thread::Threads;
@@ -56,12 +57,22 @@ pub struct Sums {
 }
 
 /// What stands between two runs.
-#[derive(Drop)]
 pub struct Stage {
     pub resting: Vec<TestSession>,
     /// They have seen what the sessions had seen that are over.
     pub seen: Passes,
     pub sums: Sums,
+}
+
+/// One call at each place where one is let go.
+impl Drop for Stage {
+    fn drop(self) {
+        let Stage {
+            resting: _resting,
+            seen: _seen,
+            sums: _sums,
+        } = self;
+    }
 }
 
 /// No run was made yet over these gates.
@@ -111,15 +122,22 @@ fn order_of(
     Some(order)
 }
 
-/// The sessions that rest of all workers.
-fn rest_of(alloc: Global, served: TestServed) -> Option<Vec<TestSession>>
-    ensures { (gates : Gates)
-        → Every (CanGoOn gates) (concat (map (λ one. one.items) served.resting.items))
-        → IfSome result (λ rest. Every (CanGoOn gates) rest.items) }
+/// The sessions that rest, of each worker. All else of what a run left is let go.
+fn resting_of(served: TestServed) -> Vec<Vec<TestSession>>
+    ensures { result ≡ served.resting }
 {
     let Served { resting, .. } = served;
+    resting
+}
+
+/// The sessions that rest of all workers.
+fn rest_of(alloc: Global, workers: Vec<Vec<TestSession>>) -> Option<Vec<TestSession>>
+    ensures { (gates : Gates)
+        → Every (CanGoOn gates) (concat (map (λ one. one.items) workers.items))
+        → IfSome result (λ rest. Every (CanGoOn gates) rest.items) }
+{
     let mut all = Vec::new(alloc);
-    for worker in resting {
+    for worker in workers {
         let mut rest = worker;
         match all.append(&mut rest) {
             Ok(()) => {}
@@ -178,97 +196,139 @@ fn count_run(before: Sums, begun: usize, served: &TestServed) -> Sums {
     }
 }
 
-/// The stage behind a run that left this, whose passes have seen what they have. None where memory is refused.
-fn stage_behind(alloc: Global, served: TestServed, seen: Passes, sums: Sums) -> Option<Stage>
-    ensures rest { (gates : Gates)
-        → Every (CanGoOn gates) (concat (map (λ one. one.items) served.resting.items))
-        → IfSome result (λ stage. Every (CanGoOn gates) stage.resting.items) }
-    ensures seen { IfSome result (λ stage. stage.seen ≡ seen) }
+/// The sessions that rested. None does now.
+fn take_resting(alloc: Global, stage: &mut Stage) -> Vec<TestSession>
+    ensures given { (gates : Gates) → Every (CanGoOn gates) stage.old.resting.items
+        → Every (CanGoOn gates) result.items }
+    ensures none { (gates : Gates) → Every (CanGoOn gates) stage.new.resting.items }
+    ensures seen { stage.new.seen ≡ stage.old.seen }
 {
-    match rest_of(alloc, served) {
-        Some(resting) => Some(Stage {
-            resting,
-            seen,
-            sums,
-        }),
-        None => None,
+    mem::replace(&mut stage.resting, Vec::new(alloc))
+}
+
+/// The sessions of these workers rest now. False where memory is refused, and then those rest that did.
+fn put_resting(alloc: Global, workers: Vec<Vec<TestSession>>, stage: &mut Stage) -> bool
+    ensures rest { (gates : Gates)
+        → Every (CanGoOn gates) (concat (map (λ one. one.items) workers.items))
+        → Every (CanGoOn gates) stage.old.resting.items
+        → Every (CanGoOn gates) stage.new.resting.items }
+    ensures seen { stage.new.seen ≡ stage.old.seen }
+{
+    match rest_of(alloc, workers) {
+        Some(resting) => {
+            stage.resting = resting;
+            true
+        }
+        None => false,
     }
 }
 
-/// The stage behind a run of these sessions. None where it isn't counted right, or its ends aren't those of these lines.
-fn run_of<X: Threads + Wait + Sync, Q: Pause + Sync>(
-    rt: &X,
-    shared: &Shared,
-    sessions: Sessions<'_>,
+/// Whether what a run left by this plan is counted right, and its ends are those of these lines. What rests of it stands in the stage then.
+fn take_served(
+    alloc: Global,
     lines: &[Line],
+    plan: &Plan,
+    served: TestServed,
+    stage: &mut Stage,
+) -> bool
+    ensures rest { (gates : Gates)
+        → Every (CanGoOn gates) (concat (map (λ one. one.items) served.resting.items))
+        → Every (CanGoOn gates) stage.old.resting.items
+        → Every (CanGoOn gates) stage.new.resting.items }
+    ensures seen { stage.new.seen ≡ stage.old.seen }
+{
+    let is_right = is_counted(&served, plan.order.as_slice(), lines);
+    stage.sums = count_run(stage.sums, plan.begun, &served);
+    put_resting(alloc, resting_of(served), stage) && is_right
+}
+
+/// The same of a run of what rests and of new sessions by these seats, whose streams are made by these wires.
+fn run_seated<'x, X: Threads + Wait + Sync, Q: Pause + Sync>(
+    rt: &X,
+    shared: &'x Shared,
+    wires: Wires<'x>,
+    lines: &'x [Line],
+    plan: &Plan,
     seats: Vec<TestSeat>,
-    plan: Plan,
     pause: &Q,
-    mut seen: Passes,
-    before: Sums,
-) -> Option<Stage>
-    requires of_gates { sessions.shared.now ≡ shared.now }
-    requires rest { Every (CanGoOn shared.now) sessions.resting.items }
-    requires seen { ArePassesOf shared.now seen }
+    stage: &mut Stage,
+) -> bool
+    requires rest { Every (CanGoOn shared.now) stage.old.resting.items }
+    requires seen { ArePassesOf shared.now stage.old.seen }
     requires count { (1 ≤ length seats.items) × (length seats.items ≤ 2) }
     requires new { Every (IsNewSeat (λ sink. sink.ends.items)
         (λ sink n. vec_len sink.ends + n ≤ vec_capacity sink.ends)) seats.items }
-    ensures rest { IfSome result (λ next. Every (CanGoOn shared.now) next.resting.items) }
-    ensures seen { IfSome result (λ next. ArePassesOf shared.now next.seen) }
+    ensures rest { Every (CanGoOn shared.now) stage.new.resting.items }
+    ensures seen { ArePassesOf shared.now stage.new.seen }
 {
-    let alloc = sessions.alloc;
-    let Ok(served) = play(rt, shared, sessions, seats, pause, &mut seen) else {
-        return None;
+    let number = stage.sums.begun;
+    let sessions = Sessions {
+        alloc: wires.alloc,
+        shared,
+        counts: wires.counts,
+        most: wires.most,
+        resting: take_resting(wires.alloc, stage),
+        lines: lines_of(lines, number, plan.begun),
+        number,
+        fails: false,
     };
-    if !is_counted(&served, plan.order.as_slice(), lines) {
-        return None;
+    match play(rt, shared, sessions, seats, pause, &mut stage.seen) {
+        Ok(served) => take_served(wires.alloc, lines, plan, served, stage),
+        Err(_) => false,
     }
-    let sums = count_run(before, plan.begun, &served);
-    stage_behind(alloc, served, seen, sums)
 }
 
-/// The stage behind the next run over these gates, of what rests and of new sessions over these lines. None where it fails, or isn't counted right, or
-/// its ends aren't those of these lines.
+/// The same by new seats.
+fn run_planned<'x, X: Threads + Wait + Sync, Q: Pause + Sync>(
+    rt: &X,
+    shared: &'x Shared,
+    wires: Wires<'x>,
+    manner: Manner,
+    lines: &'x [Line],
+    plan: &Plan,
+    pause: &Q,
+    stage: &mut Stage,
+) -> bool
+    requires rest { Every (CanGoOn shared.now) stage.old.resting.items }
+    requires seen { ArePassesOf shared.now stage.old.seen }
+    ensures rest { Every (CanGoOn shared.now) stage.new.resting.items }
+    ensures seen { ArePassesOf shared.now stage.new.seen }
+{
+    let rooms = rooms_of(manner, stage);
+    match new_seats(wires.alloc, manner.are_two, rooms, wires.counts) {
+        Ok(seats) => run_seated(rt, shared, wires, lines, plan, seats, pause, stage),
+        Err(_) => false,
+    }
+}
+
+/// Makes the next run over these gates, of what rests and of new sessions over these lines. False where it fails, or isn't counted right, or its ends
+/// aren't those of these lines.
 pub fn run_once<'x, X: Threads + Wait + Sync, Q: Pause + Sync>(
     rt: &X,
     alloc: Global,
     shared: &'x Shared,
     manner: Manner,
     lines: &'x [Line],
-    stage: Stage,
+    stage: &mut Stage,
     pause: &Q,
-) -> Option<Stage>
-    requires rest { Every (CanGoOn shared.now) stage.resting.items }
-    requires seen { ArePassesOf shared.now stage.seen }
-    ensures rest { IfSome result (λ next. Every (CanGoOn shared.now) next.resting.items) }
-    ensures seen { IfSome result (λ next. ArePassesOf shared.now next.seen) }
+) -> bool
+    requires rest { Every (CanGoOn shared.now) stage.old.resting.items }
+    requires seen { ArePassesOf shared.now stage.old.seen }
+    ensures rest { Every (CanGoOn shared.now) stage.new.resting.items }
+    ensures seen { ArePassesOf shared.now stage.new.seen }
 {
     let Ok(counts) = Arc::new(alloc, Counts::new()) else {
-        return None;
+        return false;
     };
-    let Some(plan) = plan_of(alloc, manner, lines, &stage) else {
-        return None;
-    };
-    let rooms = rooms_of(manner, &stage);
-    let Ok(seats) = new_seats(alloc, manner.are_two, rooms, &counts) else {
-        return None;
-    };
-    let Stage {
-        resting,
-        seen,
-        sums,
-    } = stage;
-    let sessions = Sessions {
+    let wires = Wires {
         alloc,
-        shared,
         counts: &counts,
         most: manner.most,
-        resting,
-        lines: lines_of(lines, sums.begun, plan.begun),
-        number: sums.begun,
-        fails: false,
     };
-    run_of(rt, shared, sessions, lines, seats, plan, pause, seen, sums)
+    match plan_of(alloc, manner, lines, stage) {
+        Some(plan) => run_planned(rt, shared, wires, manner, lines, &plan, pause, stage),
+        None => false,
+    }
 }
 
 /// Is to be raised after so many looks.

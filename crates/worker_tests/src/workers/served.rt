@@ -1,19 +1,22 @@
 //! Runs of two workers that keep no end: a sink is told each as it comes, or that there was no room for its session.
+ghost use Rattle.std.specs.Prelude.{◌+◌, ◌≤◌, length, vec_len, vec_capacity};
+ghost use Rattle.job_pool.specs.Lists.{Every};
 ghost use Rattle.gate_node.specs.Passes.{ArePassesOf};
+ghost use Rattle.session_pool.specs.Tellers.{IsNewSeat};
 
 use crate::exchanges::{NOTHING_ACCEPTED, NOTHING_COUNTED, new_shared};
 use crate::workers::kept_ends::KeptEnds;
 use crate::workers::runs::{RUNS, Run, THREE_JOBS, are_streams, are_tallies, is_accepted};
-use crate::workers::script::Line;
-use crate::workers::seats::new_seats;
-use crate::workers::sessions::{Sessions, TestServed, play};
+use crate::workers::script::{Line, Wires};
+use crate::workers::seats::{TestSeat, new_seats};
+use crate::workers::sessions::{TestServed, play_new};
 use crate::workers::streams::{Counts, Input, Output};
 use gate_node::tallies_of;
-use session_pool::{NoPause, Passes, PoolFault, SessionEnd, Shared};
+use session_pool::{Passes, PoolFault, SessionEnd, Shared};
 use stats_book::Totals;
 use std::alloc::Global;
 use std::process::Abort;
-use std::sync::atomic::Ordering;
+use std::slice;
 use std::sync::{Arc, Wait};
 use std::test::*;
 use std::thread::Threads;
@@ -107,20 +110,75 @@ pub fn has_tallies<X: Wait>(
     rt: &X,
     alloc: Global,
     shared: &Shared,
-    seen: Passes,
+    seen: &Passes,
     totals: Totals,
     run: &Run,
 ) -> bool
-    requires { ArePassesOf shared.now seen }
+    requires { ArePassesOf shared.now seen.now }
 {
-    let callers = [seen];
-    match tallies_of(rt, alloc, shared, &callers) {
+    match tallies_of(rt, alloc, shared, slice::from_ref(seen)) {
         Ok(found) => are_tallies(found.tallies.as_slice(), totals, run) && found.count_all,
         Err(_) => false,
     }
 }
 
-/// Whether a run over these gates comes to what it says, also where it fails: each of its jobs was told or refused.
+/// Whether a run over these gates by these seats comes to what it says, also where it fails.
+fn serve_seated<X: Threads + Wait + Sync>(
+    rt: &X,
+    shared: &Shared,
+    wires: Wires<'_>,
+    run: &Run,
+    seats: Vec<TestSeat>,
+    seen: &mut Passes,
+    has_room: bool,
+) -> bool
+    requires seen { ArePassesOf shared.now seen.old }
+    requires count { (1 ≤ length seats.items) × (length seats.items ≤ 64) }
+    requires new { Every (IsNewSeat (λ sink. sink.ends.items)
+        (λ sink n. vec_len sink.ends + n ≤ vec_capacity sink.ends)) seats.items }
+{
+    match play_new(rt, shared, wires, run, seats, seen) {
+        Ok(served) => {
+            is_served(&served, run, has_room)
+                && has_tallies(rt, wires.alloc, shared, seen, served.totals, run)
+        }
+        Err(fault) => run.totals == Err(fault),
+    }
+}
+
+/// The same by two new seats.
+fn serve_by_two<X: Threads + Wait + Sync>(
+    rt: &X,
+    shared: &Shared,
+    wires: Wires<'_>,
+    run: &Run,
+    seen: &mut Passes,
+    has_room: bool,
+) -> bool
+    requires { ArePassesOf shared.now seen.old }
+{
+    let rooms = if has_room { u32::MAX } else { 0 };
+    match new_seats(wires.alloc, true, rooms, wires.counts) {
+        Ok(seats) => serve_seated(rt, shared, wires, run, seats, seen, has_room),
+        Err(_) => false,
+    }
+}
+
+/// The same by new passes.
+fn serve_by_passes<X: Threads + Wait + Sync>(
+    rt: &X,
+    shared: &Shared,
+    wires: Wires<'_>,
+    run: &Run,
+    has_room: bool,
+) -> bool {
+    match Passes::new(wires.alloc, shared) {
+        Ok(mut seen) => serve_by_two(rt, shared, wires, run, &mut seen, has_room),
+        Err(_) => false,
+    }
+}
+
+/// The same, and that each of its jobs was told or refused.
 fn serve_over<X: Threads + Wait + Sync>(
     rt: &X,
     alloc: Global,
@@ -131,32 +189,14 @@ fn serve_over<X: Threads + Wait + Sync>(
     let Ok(counts) = Arc::new(alloc, Counts::new()) else {
         return false;
     };
-    let rooms = if has_room { u32::MAX } else { 0 };
-    let Ok(seats) = new_seats(alloc, true, rooms, &counts) else {
-        return false;
-    };
-    let Ok(mut seen) = Passes::new(alloc, shared) else {
-        return false;
-    };
-    let sessions = Sessions {
+    let wires = Wires {
         alloc,
-        shared,
         counts: &counts,
         most: usize::MAX,
-        resting: Vec::new(alloc),
-        lines: run.lines,
-        number: 0,
-        fails: run.fails,
-    };
-    let is_so = match play(rt, shared, sessions, seats, &NoPause, &mut seen) {
-        Ok(served) => {
-            is_served(&served, run, has_room)
-                && has_tallies(rt, alloc, shared, seen, served.totals, run)
-        }
-        Err(fault) => run.totals == Err(fault),
     };
     let jobs = run.lines.len() as u64;
-    is_so && counts.are_told(if has_room { (jobs, 0) } else { (0, jobs) })
+    let told = if has_room { (jobs, 0) } else { (0, jobs) };
+    serve_by_passes(rt, shared, wires, run, has_room) && counts.are_told(told)
 }
 
 /// The same over new gates, and that their vnodes accepted what they were to.

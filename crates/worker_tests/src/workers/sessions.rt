@@ -7,11 +7,12 @@ ghost use Rattle.session_pool.specs.Suspending.{CanGoOn};
 ghost use Rattle.session_pool.specs.Tellers.{IsNewSeat};
 
 use crate::workers::kept_ends::KeptEnds;
+use crate::workers::runs::Run;
 use crate::workers::script::{Line, Wires, streams_of};
 use crate::workers::seats::TestSeat;
 use crate::workers::streams::{Counts, Input, Output};
 use session_pool::{
-    JobFault, Jobs, Open, Passes, Pause, PoolFault, Served, Shared, Suspended, serve,
+    JobFault, Jobs, NoPause, Open, Passes, Pause, PoolFault, Served, Shared, Suspended, serve,
 };
 use std::alloc::Global;
 use std::sync::atomic::{AtomicU64, Ordering};
@@ -147,4 +148,32 @@ pub fn play<X: Threads + Wait + Sync, Q: Pause + Sync>(
 {
     let alloc = sessions.alloc;
     serve(rt, alloc, shared, &mut sessions, seats, &Open, pause, seen)
+}
+
+/// A run of new sessions over the lines of this one, which isn't paused.
+pub fn play_new<X: Threads + Wait + Sync>(
+    rt: &X,
+    shared: &Shared,
+    wires: Wires<'_>,
+    run: &Run,
+    seats: Vec<TestSeat>,
+    seen: &mut Passes,
+) -> Result<TestServed, PoolFault>
+    requires seen { ArePassesOf shared.now seen.old }
+    requires count { (1 ≤ length seats.items) × (length seats.items ≤ 64) }
+    requires new { Every (IsNewSeat (λ sink. sink.ends.items)
+        (λ sink n. vec_len sink.ends + n ≤ vec_capacity sink.ends)) seats.items }
+    ensures { ArePassesOf shared.now seen.new }
+{
+    let sessions = Sessions {
+        alloc: wires.alloc,
+        shared,
+        counts: wires.counts,
+        most: wires.most,
+        resting: Vec::new(wires.alloc),
+        lines: run.lines,
+        number: 0,
+        fails: run.fails,
+    };
+    play(rt, shared, sessions, seats, &NoPause, seen)
 }

@@ -4,6 +4,7 @@ use crate::workers::resting::{Manner, PLAIN, Stage, after_looks, new_stage, run_
 use crate::workers::script::Line;
 use crate::workers::sessions::TestSession;
 use node_session::Ended;
+use session_pool::Shared;
 use std::alloc::Global;
 use std::process::Abort;
 use std::sync::Wait;
@@ -101,21 +102,25 @@ fn is_cut(stage: &Stage, cut: &Cut) -> bool {
     }
 }
 
-/// Whether a session over new gates is cut as it says.
-fn cuts_anew<X: Threads + Wait + Sync>(rt: &X, alloc: Global, cut: &Cut) -> bool {
-    let Some(shared) = new_shared(alloc, 1, 0) else {
-        return false;
-    };
-    let Some(stage) = new_stage(alloc, &shared) else {
-        return false;
-    };
+/// Whether a session over these new gates is cut as it says.
+fn cuts_over<X: Threads + Wait + Sync>(rt: &X, alloc: Global, shared: &Shared, cut: &Cut) -> bool {
     let manner = Manner {
         most: cut.most,
         ..PLAIN
     };
     let pause = after_looks(cut.looks);
-    match run_once(rt, alloc, &shared, manner, ONE_PUT, stage, &pause) {
-        Some(stage) => is_cut(&stage, cut),
+    match new_stage(alloc, shared) {
+        Some(mut stage) => {
+            run_once(rt, alloc, shared, manner, ONE_PUT, &mut stage, &pause) && is_cut(&stage, cut)
+        }
+        None => false,
+    }
+}
+
+/// The same over gates of its own.
+fn cuts_anew<X: Threads + Wait + Sync>(rt: &X, alloc: Global, cut: &Cut) -> bool {
+    match new_shared(alloc, 1, 0) {
+        Some(shared) => cuts_over(rt, alloc, &shared, cut),
         None => false,
     }
 }

@@ -2,7 +2,6 @@
 ghost use Rattle.job_pool.specs.Lists.{Every};
 ghost use Rattle.gate_node.specs.Passes.{ArePassesOf};
 ghost use Rattle.session_pool.specs.Suspending.{CanGoOn};
-ghost use Rattle.std.specs.Prelude.{IfSome};
 
 use crate::exchanges::{NOTHING_ACCEPTED, NOTHING_COUNTED, new_shared};
 use crate::workers::resting::{Manner, PLAIN, Stage, after_looks, new_stage, run_once};
@@ -186,39 +185,37 @@ const LATER_REFUSED: Row = Row {
     refused: 3,
 };
 
-/// The stage behind a run of a row that is paused after so many looks, and whether it was.
+/// Makes a run of a row that is paused after so many looks: whether it was. None where the run doesn't come to what it should.
 fn pause_once<X: Threads + Wait + Sync>(
     rt: &X,
     alloc: Global,
     shared: &Shared,
     row: &Row,
-    stage: Stage,
+    stage: &mut Stage,
     looks: u64,
-) -> (Option<Stage>, bool)
-    requires rest { Every (CanGoOn shared.now) stage.resting.items }
-    requires seen { ArePassesOf shared.now stage.seen }
-    ensures rest { IfSome result.0 (λ next. Every (CanGoOn shared.now) next.resting.items) }
-    ensures seen { IfSome result.0 (λ next. ArePassesOf shared.now next.seen) }
+) -> Option<bool>
+    requires rest { Every (CanGoOn shared.now) stage.old.resting.items }
+    requires seen { ArePassesOf shared.now stage.old.seen }
+    ensures rest { Every (CanGoOn shared.now) stage.new.resting.items }
+    ensures seen { ArePassesOf shared.now stage.new.seen }
 {
     let pause = after_looks(looks);
-    let next = run_once(rt, alloc, shared, row.manner, row.run.lines, stage, &pause);
-    (next, pause.looks.load(Ordering::SeqCst) > looks)
+    if run_once(rt, alloc, shared, row.manner, row.run.lines, stage, &pause) {
+        Some(pause.looks.load(Ordering::SeqCst) > looks)
+    } else {
+        None
+    }
 }
 
 /// Whether the sessions of a row are all over, and counted as it says.
-fn is_done<X: Wait>(rt: &X, alloc: Global, shared: &Shared, row: &Row, stage: Stage) -> bool
-    requires { ArePassesOf shared.now stage.seen }
+fn is_done<X: Wait>(rt: &X, alloc: Global, shared: &Shared, row: &Row, stage: &Stage) -> bool
+    requires { ArePassesOf shared.now stage.now.seen }
 {
-    let Stage {
-        resting,
-        seen,
-        sums,
-    } = stage;
-    resting.is_empty()
-        && sums.begun == row.run.lines.len()
-        && sums.refused == row.refused
-        && row.run.totals == Ok(sums.totals)
-        && has_tallies(rt, alloc, shared, seen, sums.totals, row.run)
+    stage.resting.is_empty()
+        && stage.sums.begun == row.run.lines.len()
+        && stage.sums.refused == row.refused
+        && row.run.totals == Ok(stage.sums.totals)
+        && has_tallies(rt, alloc, shared, &stage.seen, stage.sums.totals, row.run)
 }
 
 /// Whether what rests, and what didn't begin yet, comes to what the row says in a run that isn't paused.
@@ -227,19 +224,17 @@ fn goes_on<X: Threads + Wait + Sync>(
     alloc: Global,
     shared: &Shared,
     row: &Row,
-    stage: Stage,
+    stage: &mut Stage,
 ) -> bool
-    requires rest { Every (CanGoOn shared.now) stage.resting.items }
-    requires seen { ArePassesOf shared.now stage.seen }
+    requires rest { Every (CanGoOn shared.now) stage.old.resting.items }
+    requires seen { ArePassesOf shared.now stage.old.seen }
 {
     let manner = Manner {
         begins: usize::MAX,
         ..row.manner
     };
-    match run_once(rt, alloc, shared, manner, row.run.lines, stage, &NoPause) {
-        Some(stage) => is_done(rt, alloc, shared, row, stage),
-        None => false,
-    }
+    run_once(rt, alloc, shared, manner, row.run.lines, stage, &NoPause)
+        && is_done(rt, alloc, shared, row, stage)
 }
 
 /// The same, where it is paused a second time after so many looks, if it is.
@@ -248,23 +243,40 @@ fn goes_on_by<X: Threads + Wait + Sync>(
     alloc: Global,
     shared: &Shared,
     row: &Row,
-    stage: Stage,
+    stage: &mut Stage,
     second: Option<u64>,
 ) -> bool
-    requires rest { Every (CanGoOn shared.now) stage.resting.items }
-    requires seen { ArePassesOf shared.now stage.seen }
+    requires rest { Every (CanGoOn shared.now) stage.old.resting.items }
+    requires seen { ArePassesOf shared.now stage.old.seen }
 {
-    let Some(looks) = second else {
-        return goes_on(rt, alloc, shared, row, stage);
-    };
-    let (next, _) = pause_once(rt, alloc, shared, row, stage, looks);
-    match next {
-        Some(stage) => goes_on(rt, alloc, shared, row, stage),
+    match second {
+        Some(looks) => {
+            pause_once(rt, alloc, shared, row, stage, looks).is_some()
+                && goes_on(rt, alloc, shared, row, stage)
+        }
+        None => goes_on(rt, alloc, shared, row, stage),
+    }
+}
+
+/// Whether a row, in runs over these new gates of which the first is paused after so many looks, and the second too, if it is, comes to what it says.
+fn is_paused_over<X: Threads + Wait + Sync>(
+    rt: &X,
+    alloc: Global,
+    shared: &Shared,
+    row: &Row,
+    first: u64,
+    second: Option<u64>,
+) -> bool {
+    match new_stage(alloc, shared) {
+        Some(mut stage) => {
+            pause_once(rt, alloc, shared, row, &mut stage, first) == Some(first < row.looks)
+                && goes_on_by(rt, alloc, shared, row, &mut stage, second)
+        }
         None => false,
     }
 }
 
-/// Whether a row, in runs over new gates of which the first is paused after so many looks, and the second too, if it is, comes to what it says.
+/// The same over gates of its own.
 fn is_paused<X: Threads + Wait + Sync>(
     rt: &X,
     alloc: Global,
@@ -272,17 +284,8 @@ fn is_paused<X: Threads + Wait + Sync>(
     first: u64,
     second: Option<u64>,
 ) -> bool {
-    let Some(shared) = new_shared(alloc, row.run.partitions, row.run.budget) else {
-        return false;
-    };
-    let Some(stage) = new_stage(alloc, &shared) else {
-        return false;
-    };
-    let (next, was_raised) = pause_once(rt, alloc, &shared, row, stage, first);
-    match next {
-        Some(stage) => {
-            was_raised == (first < row.looks) && goes_on_by(rt, alloc, &shared, row, stage, second)
-        }
+    match new_shared(alloc, row.run.partitions, row.run.budget) {
+        Some(shared) => is_paused_over(rt, alloc, &shared, row, first, second),
         None => false,
     }
 }

@@ -17,6 +17,7 @@ use session_pool::{NoPause, Open, Passes, Shared};
 use stats_book::Totals;
 use std::alloc::Global;
 use std::process::Abort;
+use std::slice;
 use std::sync::Wait;
 use std::test::*;
 use std::thread::Threads;
@@ -183,29 +184,23 @@ fn divert_under(alloc: Global, shared: Shared, stage: &Stage) -> Option<Shared>
     }
 }
 
-/// The stage behind a run that is paused after so many looks. None where not so many requests are answered then.
+/// Makes a run that is paused after so many looks. Whether it comes to what it should, and so many requests are answered then.
 fn pause_once<'x, X: Threads + Wait + Sync>(
     rt: &X,
     alloc: Global,
     shared: &'x Shared,
     lines: &'x [Line],
-    stage: Stage,
+    stage: &mut Stage,
     looks: u64,
     answered: u64,
-) -> Option<Stage>
-    requires rest { Every (CanGoOn shared.now) stage.resting.items }
-    requires seen { ArePassesOf shared.now stage.seen }
-    ensures rest { IfSome result (λ next. Every (CanGoOn shared.now) next.resting.items) }
-    ensures seen { IfSome result (λ next. ArePassesOf shared.now next.seen) }
+) -> bool
+    requires rest { Every (CanGoOn shared.now) stage.old.resting.items }
+    requires seen { ArePassesOf shared.now stage.old.seen }
+    ensures rest { Every (CanGoOn shared.now) stage.new.resting.items }
+    ensures seen { ArePassesOf shared.now stage.new.seen }
 {
     let pause = after_looks(looks);
-    let Some(next) = run_once(rt, alloc, shared, PLAIN, lines, stage, &pause) else {
-        return None;
-    };
-    if !has_answered(&next, answered) {
-        return None;
-    }
-    Some(next)
+    run_once(rt, alloc, shared, PLAIN, lines, stage, &pause) && has_answered(stage, answered)
 }
 
 /// Whether so many requests were answered.
@@ -231,17 +226,16 @@ fn has_accepted<X: Wait>(
     rt: &X,
     alloc: Global,
     shared: &Shared,
-    seen: Passes,
+    seen: &Passes,
     turned: &Turned,
 ) -> bool
-    requires { ArePassesOf shared.now seen }
+    requires { ArePassesOf shared.now seen.now }
 {
     let wanted = Tally {
         writes: turned.at_primary,
         ..NOTHING_ACCEPTED
     };
-    let callers = [seen];
-    match tallies_of(rt, alloc, shared, &callers) {
+    match tallies_of(rt, alloc, shared, slice::from_ref(seen)) {
         Ok(found) => {
             found.tallies.as_slice() == [wanted].as_slice()
                 && found.count_all == (turned.copies == 0)
@@ -265,20 +259,17 @@ fn is_joint<X: Wait>(rt: &X, alloc: Global, shared: &Shared, turned: &Turned) ->
 }
 
 /// Whether the session is over, and all was counted.
-fn is_done<X: Wait>(rt: &X, alloc: Global, shared: &Shared, stage: Stage, turned: &Turned) -> bool
-    requires { ArePassesOf shared.now stage.seen }
+fn is_done<X: Wait>(rt: &X, alloc: Global, shared: &Shared, stage: &Stage, turned: &Turned) -> bool
+    requires { ArePassesOf shared.now stage.now.seen }
 {
     let wanted = Totals {
         gets: 1,
         puts: 2,
         ..NOTHING_COUNTED
     };
-    let Stage {
-        resting,
-        seen,
-        sums,
-    } = stage;
-    resting.is_empty() && sums.totals == wanted && has_accepted(rt, alloc, shared, seen, turned)
+    stage.resting.is_empty()
+        && stage.sums.totals == wanted
+        && has_accepted(rt, alloc, shared, &stage.seen, turned)
 }
 
 /// Whether the session, which rests while its partition is returned, if it isn't over, comes to what it says.
@@ -286,24 +277,59 @@ fn goes_on<X: Threads + Wait + Sync>(
     rt: &X,
     alloc: Global,
     shared: &Shared,
-    stage: Stage,
+    stage: &mut Stage,
     turned: &Turned,
     looks: u64,
 ) -> bool
-    requires rest { Every (CanGoOn shared.now) stage.resting.items }
-    requires seen { ArePassesOf shared.now stage.seen }
+    requires rest { Every (CanGoOn shared.now) stage.old.resting.items }
+    requires seen { ArePassesOf shared.now stage.old.seen }
 {
     let lines = [line_of(turned)];
-    let Some(stage) = pause_once(rt, alloc, shared, &lines, stage, looks, turned.behind) else {
-        return false;
-    };
-    if !is_returned(rt, alloc, shared, turned) {
+    pause_once(rt, alloc, shared, &lines, stage, looks, turned.behind)
+        && is_returned(rt, alloc, shared, turned)
+        && run_once(rt, alloc, shared, PLAIN, &lines, stage, &NoPause)
+        && is_done(rt, alloc, shared, stage, turned)
+        && is_joint(rt, alloc, shared, turned)
+}
+
+/// The same of a session that hasn't begun, and is paused after so many looks, before its partition is diverted.
+fn turns_from<X: Threads + Wait + Sync>(
+    rt: &X,
+    alloc: Global,
+    shared: Shared,
+    stage: &mut Stage,
+    turned: &Turned,
+    looks: (u64, u64),
+) -> bool
+    requires rest { Every (CanGoOn shared) stage.old.resting.items }
+    requires seen { ArePassesOf shared stage.old.seen }
+    requires budget { shared.budget ≡ 0 }
+    requires reads { shared.reads ≡ 100 }
+{
+    let (first, second) = looks;
+    let lines = [line_of(turned)];
+    if !pause_once(rt, alloc, &shared, &lines, stage, first, turned.before) {
         return false;
     }
-    match run_once(rt, alloc, shared, PLAIN, &lines, stage, &NoPause) {
-        Some(stage) => {
-            is_done(rt, alloc, shared, stage, turned) && is_joint(rt, alloc, shared, turned)
-        }
+    match divert_under(alloc, shared, stage) {
+        Some(shared) => goes_on(rt, alloc, &shared, stage, turned, second),
+        None => false,
+    }
+}
+
+/// The same over these new gates.
+fn turns_over<X: Threads + Wait + Sync>(
+    rt: &X,
+    alloc: Global,
+    shared: Shared,
+    turned: &Turned,
+    looks: (u64, u64),
+) -> bool
+    requires budget { shared.budget ≡ 0 }
+    requires reads { shared.reads ≡ 100 }
+{
+    match new_stage(alloc, &shared) {
+        Some(mut stage) => turns_from(rt, alloc, shared, &mut stage, turned, looks),
         None => false,
     }
 }
@@ -316,18 +342,8 @@ fn turns<X: Threads + Wait + Sync>(rt: &X, alloc: Global, first: u64, second: u6
     let Some(turned) = turned_at(before, behind) else {
         return false;
     };
-    let Some(shared) = new_shared(alloc, 1, 0) else {
-        return false;
-    };
-    let Some(stage) = new_stage(alloc, &shared) else {
-        return false;
-    };
-    let lines = [line_of(turned)];
-    let Some(stage) = pause_once(rt, alloc, &shared, &lines, stage, first, before) else {
-        return false;
-    };
-    match divert_under(alloc, shared, &stage) {
-        Some(shared) => goes_on(rt, alloc, &shared, stage, turned, second),
+    match new_shared(alloc, 1, 0) {
+        Some(shared) => turns_over(rt, alloc, shared, turned, (first, second)),
         None => false,
     }
 }

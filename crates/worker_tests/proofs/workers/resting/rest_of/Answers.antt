@@ -7,7 +7,7 @@ use Rattle.worker_tests.proofs.Sessions.{joined_none, joined_more, joined_all}
 use Rattle.worker_tests.proofs.workers.resting.rest_of.Goals as goal
 
 pub loop-worker-init : goal.loop-worker-init
-loop-worker-init c = joined_none c.new-all.result.items (into_iter_items c.into_iter-worker-iterator.result) c.args.served.resting.items (search rules) (search rules)
+loop-worker-init c = joined_none c.new-all.result.items (into_iter_items c.into_iter-worker-iterator.result) c.args.workers.items (search rules) (search rules)
 
 pub loop-worker-preserved : goal.loop-worker-preserved
 loop-worker-preserved c =
