@@ -14,7 +14,7 @@ WORKERS = int(os.environ.get("WORKERS", "4"))
 KEYS = int(os.environ.get("KEYS", "100000"))
 BUDGET = int(os.environ.get("BUDGET", "1000"))
 SECONDS_EACH = float(os.environ.get("SECONDS_EACH", "4"))
-PARTS = os.environ.get("PARTS", "idle busy copies").split()
+PARTS = os.environ.get("PARTS", "idle busy copies counts").split()
 MANY = os.environ["MANY"]
 RING = 64
 VALUE = bytes(100)
@@ -120,6 +120,21 @@ def copies(budget):
     node.end()
 
 
+def counts(ring, operation):
+    """`totals` again and again on a node of so many partitions that stores many keys, while 64 connections are busy."""
+    node = Console(ring)
+    fill(node, KEYS)
+    for commands in ((), ("totals",)):
+        load = node.load(operation, 64, 0)
+        time.sleep(0.5)
+        took = []
+        for _ in range(20 if commands else 0):
+            took.append(node.take("totals", "gets"))
+            time.sleep((SECONDS_EACH - 1) / 40)
+        row(f"{KEYS:,} keys, ring {ring}, 64 {operation}", "totals" if commands else "-", took, told(load))
+    node.end()
+
+
 print(f"{'':34} {'command':8} {'times':>5} {'median ms':>9} {'longest':>9} {'req/s':>9} {'median us':>9} {'99th':>9} {'99.9th':>9} {'errors':>9}")
 if "idle" in PARTS:
     for idle in (0, 1_000, 10_000):
@@ -132,3 +147,7 @@ if "busy" in PARTS:
 if "copies" in PARTS:
     for budget in (KEYS, BUDGET):
         copies(budget)
+if "counts" in PARTS:
+    for ring in (1, RING):
+        for operation in ("get", "put"):
+            counts(ring, operation)

@@ -3,7 +3,7 @@
 /// What an operator asks a serving node for.
 #[derive(Clone, Copy, Drop, PartialEq, Eq)]
 pub enum Command {
-    /// How many commands were served: `totals`.
+    /// How many commands were served, and how much is stored: `totals`.
     Totals,
     /// That the partition of this index, from 0, is diverted to a fallback: `divert P`.
     Divert(u16),

@@ -7,7 +7,7 @@
 //! What it costs: nothing here takes memory. A line is read in a few passes over it.
 //!
 //! ```text
-//! totals              how many commands were served
+//! totals              how many commands were served, and how much is stored
 //! divert 3            partition 3 is diverted to a fallback          diverted 3
 //! copy 3 100          at most 100 of its keys are copied back        copied 3 keys 100 left
 //! return 3            partition 3 goes back to its primary           returned 3

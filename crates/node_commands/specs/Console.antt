@@ -1,5 +1,5 @@
 -- What an operator's console answers.
-use Rattle.std.specs.Prelude.{◌≡◌, ◌<◌, ◌⊎◌, ◌↔◌, ◌^◌, ℕ, true}
+use Rattle.std.specs.Prelude.{◌≡◌, ◌<◌, ◌⊎◌, ◌↔◌, ◌^◌, ℕ, List, true}
 use Rattle.handoff.specs.Copying.{IsCopiedBack, IsCopyFault}
 use Rattle.handoff.specs.Partitions.{HandoffView, IsDivertRefused}
 use Rattle.handoff.specs.Returning.{HasReturned, IsReturnFault}
@@ -12,6 +12,9 @@ use Rattle.control_text.specs.declared.answer.Answer.TheVariants.{Diverted, Copi
 use Rattle.control_text.specs.declared.refusal.Refusal.{Refusal}
 use Rattle.control_text.specs.declared.refusal.Refusal.TheVariants.{NoPartition, AlreadyDiverted, NotDiverted, LeftOver, NoMemory, GateStopped}
 use Rattle.gate_node.specs.Gates.{Gates, handoff_of}
+use Rattle.key_counts.specs.declared.counts.KeyCounts.{KeyCounts}
+use Rattle.key_counts.specs.declared.partitions.PartitionCounts.{PartitionCounts}
+use Rattle.key_counts.specs.Partitions.{AreCounted, total_in}
 use Rattle.session_pool.specs.Resuming.{IsOnceDiverted}
 use Rattle.node_commands.specs.declared.progress.Paused.{Paused}
 
@@ -22,6 +25,10 @@ refusal_of partition (faults.NotDiverted seen) = NotDiverted partition
 refusal_of partition (faults.LeftOver passes) = LeftOver partition
 refusal_of partition faults.NoMemory = NoMemory
 refusal_of partition faults.GateStopped = GateStopped partition
+
+-- the vnodes of all partitions store this much together, by a look at each
+abbrev pub IsStored : HandoffView → KeyCounts → Type 0
+IsStored handoff counts = (partitions : List PartitionCounts) × AreCounted handoff partitions × (counts ≡ total_in partitions)
 
 -- keys were copied back, so many, and some are left or none; or why not
 abbrev pub AnswersCopy : HandoffView → (partition budget : ℕ) → Answer → Type 0

@@ -1,5 +1,6 @@
 -- The lines that a run of connections writes, and why it stopped in words.
-use Rattle.std.specs.Prelude.{ℕ, List, codes, decimal, ◌++◌}
+use Rattle.std.specs.Prelude.{ℕ, List, Option, Some, None, codes, decimal, ◌++◌}
+use Rattle.key_counts.specs.declared.counts.KeyCounts.{KeyCounts}
 use Rattle.stats_book.specs.declared.totals.Totals.{Totals}
 use Rattle.node_commands.specs.declared.fault.ServeFault.{ServeFault}
 use Rattle.node_commands.specs.declared.fault.ServeFault.TheVariants.{AcceptFailed, NoThread, NoMemory, BookFull}
@@ -22,11 +23,16 @@ totals_line t = commands_text t ++ others_text t
 
 -- the same of a server that goes on, with how many connections it has accepted
 abbrev pub open_text : Totals → ℕ → List ℕ
-open_text t connections = codes " refusals " ++ decimal t.refusals ++ codes " reaps " ++ decimal t.reaps ++ codes " connections " ++ decimal connections ++ codes "\n"
+open_text t connections = codes " refusals " ++ decimal t.refusals ++ codes " reaps " ++ decimal t.reaps ++ codes " connections " ++ decimal connections
+
+-- how much it stores, where that is known, to the line's end
+abbrev pub stored_text : Option KeyCounts → List ℕ
+stored_text None = codes "\n"
+stored_text (Some c) = codes " keys " ++ decimal c.keys ++ codes " siblings " ++ decimal c.siblings ++ codes " dead " ++ decimal c.dead_keys ++ codes " bytes " ++ decimal c.value_bytes ++ codes "\n"
 
 -- the line of its totals
-abbrev pub open_line : Totals → ℕ → List ℕ
-open_line t connections = commands_text t ++ open_text t connections
+abbrev pub open_line : Totals → ℕ → Option KeyCounts → List ℕ
+open_line t connections counts = commands_text t ++ open_text t connections ++ stored_text counts
 
 -- why serving stopped, in words
 abbrev pub serve_fault_text : ServeFault → List ℕ

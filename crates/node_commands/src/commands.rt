@@ -196,7 +196,7 @@ impl<C: Read + Write> Console<C> {
         requires { HaveTracks (handoff_of shared.now) tracks.old }
         ensures { HaveTracks (handoff_of shared.now) tracks.new }
     {
-        self.tell_kept();
+        self.tell_kept(rt, alloc, shared.handoff());
         for _ in rt.forever() {
             match self.read_line(rt, alloc, has_ended) {
                 Heard::Over => return Asked::Nothing,

@@ -1,7 +1,12 @@
 //! An operator's console: what an operator writes and reads, line by line.
 
+ghost use Rattle.std.specs.Prelude.{IfSome};
+ghost use Rattle.node_commands.specs.Console.{IsStored};
+
 use crate::lines::write_open_totals;
 use control_text::{Answer, Command, read_command};
+use handoff::Handoff;
+use key_counts::{KeyCounts, count_partitions, total_of};
 use stats_book::Totals;
 use std::alloc::Global;
 use std::io::{ErrorKind, Read, Write};
@@ -38,6 +43,16 @@ pub(crate) enum Heard {
     End,
     /// Serving has ended by itself.
     Over,
+}
+
+/// How much the vnodes of all partitions store, each at a moment of its own. None where memory is refused to the count.
+fn count_stored<X: Wait>(rt: &X, alloc: Global, handoff: &Handoff) -> Option<KeyCounts>
+    ensures { IfSome result (IsStored handoff.now) }
+{
+    match count_partitions(rt, alloc, handoff) {
+        Ok(partitions) => Some(total_of(partitions.as_slice())),
+        Err(_) => None,
+    }
 }
 
 /// The channel to an operator, and the line that has come over it so far.
@@ -87,11 +102,13 @@ impl<C: Read + Write> Console<C> {
         self.kept = Some(told);
     }
 
-    /// Tells what was kept, if anything was, as far as that can be written.
-    pub(crate) fn tell_kept(&mut self) {
+    /// Tells what was kept, if anything was, as far as that can be written: beside totals how much is stored by now.
+    pub(crate) fn tell_kept<X: Wait>(&mut self, rt: &X, alloc: Global, handoff: &Handoff) {
         match self.kept {
             Some(Told::Answer(answer)) => self.answer(answer),
-            Some(Told::Totals(totals, connections)) => self.tell_totals(totals, connections),
+            Some(Told::Totals(totals, connections)) => {
+                self.tell_totals(totals, connections, count_stored(rt, alloc, handoff));
+            }
             None => {}
         }
         self.kept = None;
@@ -104,9 +121,9 @@ impl<C: Read + Write> Console<C> {
         }
     }
 
-    /// Tells the totals at a pause, and how many connections were accepted by then, as far as that can be written.
-    fn tell_totals(&mut self, totals: Totals, connections: u64) {
-        if write_open_totals(&mut self.operator, totals, connections).is_ok() {
+    /// Tells the totals at a pause, how many connections were accepted by then, and how much is stored, as far as that can be written.
+    fn tell_totals(&mut self, totals: Totals, connections: u64, counts: Option<KeyCounts>) {
+        if write_open_totals(&mut self.operator, totals, connections, counts).is_ok() {
             let _unheard = self.operator.flush();
         }
     }

@@ -215,7 +215,9 @@ fn conclude<X: Wait>(
 /// It writes `listening ADDRESS` before the first connection is accepted, and the totals at the end. Over the operator's channel it reads lines, and writes one
 /// for each:
 ///
-/// - `totals`: what all sessions have counted, and how many connections were accepted, at one moment. For that the workers are paused.
+/// - `totals`: what all sessions have counted, and how many connections were accepted, at one moment. For that the workers are paused. And how many keys,
+///   siblings, dead keys and bytes of values are stored, counted behind the pause, while calls go on, each partition at a moment of its own; nothing of that
+///   where memory is refused to the count.
 /// - `divert P`: the calls of partition P are for a fallback from then on. For that the workers are paused. Refused where there is no such partition, where it
 ///   is diverted, and where memory is refused.
 /// - `copy P B`: at most B keys of its fallback are copied back to its primary, while calls go on.

@@ -2,8 +2,9 @@
 ghost use Rattle.std.specs.Prelude.{OnOk};
 ghost use Rattle.std.specs.Io.KnownBytes.{Appends};
 ghost use Rattle.node_commands.specs.Lines.{address_line, commands_text, open_line, open_text};
-ghost use Rattle.node_commands.specs.Lines.{others_text, totals_line};
+ghost use Rattle.node_commands.specs.Lines.{others_text, stored_text, totals_line};
 
+use key_counts::KeyCounts;
 use log::{Log, warn};
 use stats_book::Totals;
 use std::io;
@@ -71,7 +72,7 @@ pub(crate) fn report<W: Write>(totals: Totals, writer: &mut W) -> io::Result<()>
     written
 }
 
-/// Writes how many refusals and reaps were counted and how many connections were accepted, to the line's end.
+/// Writes how many refusals and reaps were counted and how many connections were accepted.
 fn write_open<W: Write>(writer: &mut W, totals: Totals, connections: u64) -> io::Result<()>
     ensures { OnOk result
         (Appends (W.contents writer.old) (W.contents writer.new) (open_text totals connections)) }
@@ -81,23 +82,45 @@ fn write_open<W: Write>(writer: &mut W, totals: Totals, connections: u64) -> io:
         reaps,
         ..
     } = totals;
-    writeln!(
+    write!(
         writer,
         " refusals {refusals} reaps {reaps} connections {connections}"
     )
 }
 
-/// Writes the totals and how many connections were accepted, in a line.
+/// Writes how much is stored, where it is known, and ends the line.
+fn write_stored<W: Write>(writer: &mut W, counts: Option<KeyCounts>) -> io::Result<()>
+    ensures { OnOk result
+        (Appends (W.contents writer.old) (W.contents writer.new) (stored_text counts)) }
+{
+    let Some(counts) = counts else {
+        return writeln!(writer);
+    };
+    let KeyCounts {
+        keys,
+        siblings,
+        dead_keys,
+        value_bytes,
+    } = counts;
+    writeln!(
+        writer,
+        " keys {keys} siblings {siblings} dead {dead_keys} bytes {value_bytes}"
+    )
+}
+
+/// Writes the totals, how many connections were accepted, and how much is stored where it is known, in a line.
 pub(crate) fn write_open_totals<W: Write>(
     writer: &mut W,
     totals: Totals,
     connections: u64,
+    counts: Option<KeyCounts>,
 ) -> io::Result<()>
-    ensures { OnOk result
-        (Appends (W.contents writer.old) (W.contents writer.new) (open_line totals connections)) }
+    ensures { OnOk result (Appends (W.contents writer.old) (W.contents writer.new)
+        (open_line totals connections counts)) }
 {
     write_commands(writer, totals)?;
-    write_open(writer, totals, connections)
+    write_open(writer, totals, connections)?;
+    write_stored(writer, counts)
 }
 
 /// Logs where some vnode's tally counts other than its history has entries, since then the laws of the register don't speak of this run; writes the

@@ -35,10 +35,10 @@ fn bare_serve<'a>(alloc: Global) -> clap::Command<'a> {
              connection, and what was done, as in: gets 2 puts 2 deletes 0 refusals 0 reaps 0, where it ends in order. The\n\
              log of the connections goes to standard error.\n\n\
              With --control each line of standard input is a command, and is answered by one line between these two:\n\
-             totals, what was done so far, and how many connections came; divert P, calls of partition P, from 0, go to a\n\
-             fallback; copy P B, at most B of its keys are copied back, and whether some are left; return P, it is at its\n\
-             primary again; stop, serving ends in order. What can't be done is answered by why, as in: refused: no such\n\
-             command.\n\n\
+             totals, what was done so far, how many connections came, and how much is stored; divert P, calls of\n\
+             partition P, from 0, go to a fallback; copy P B, at most B of its keys are copied back, and whether some are\n\
+             left; return P, it is at its primary again; stop, serving ends in order. What can't be done is answered by\n\
+             why, as in: refused: no such command.\n\n\
              With --control-port operators write these lines to that port and read the answers there, one behind another. Its\n\
              address is a line before the other two, as in: control 127.0.0.1:8088.\n\n\
              Exit status: 0 at the end of standard input with --until-eof or --control, at stop, and when all connections\n\

@@ -157,7 +157,7 @@ const SERVERS: &[Controls] = &[
         operators: &[
             b"totals\ncopy 0 1\nreturn 0\ndivert 0\ndivert 0\ncopy 0 1\nreturn 0\ncopy 0 1\ndivert 1\ncopy 7 1\nreturn 9\nDivert 0\ndivert 0\r\nstop\ntotals\n",
         ],
-        answers: b"gets 0 puts 0 deletes 0 refusals 0 reaps 0 connections 0\nrefused: partition 0 isn't diverted\nrefused: partition 0 isn't diverted\ndiverted 0\nrefused: partition 0 is diverted already\ncopied 0 keys 0 whole\nreturned 0\nrefused: partition 0 isn't diverted\nrefused: there is no partition 1\nrefused: there is no partition 7\nrefused: there is no partition 9\nrefused: no such command\ndiverted 0\n",
+        answers: b"gets 0 puts 0 deletes 0 refusals 0 reaps 0 connections 0 keys 0 siblings 0 dead 0 bytes 0\nrefused: partition 0 isn't diverted\nrefused: partition 0 isn't diverted\ndiverted 0\nrefused: partition 0 is diverted already\ncopied 0 keys 0 whole\nreturned 0\nrefused: partition 0 isn't diverted\nrefused: there is no partition 1\nrefused: there is no partition 7\nrefused: there is no partition 9\nrefused: no such command\ndiverted 0\n",
         steps: &[],
         connections: 0,
         returned: 1,
