@@ -196,6 +196,8 @@ impl<C: Read + Write> Console<C> {
         requires { HaveTracks (handoff_of shared.now) tracks.old }
         ensures { HaveTracks (handoff_of shared.now) tracks.new }
     {
+        // before what is stored is counted, since meanwhile the workers may fill what was let go for the pause
+        self.keep_back(alloc);
         self.tell_kept(rt, alloc, shared.handoff());
         for _ in rt.forever() {
             match self.read_line(rt, alloc, has_ended) {

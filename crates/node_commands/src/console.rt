@@ -81,7 +81,7 @@ impl<C: Read + Write> Console<C> {
     }
 
     /// Keeps memory back for a pause, where that isn't kept yet and can be had.
-    fn keep_back(&mut self, alloc: Global) {
+    pub(crate) fn keep_back(&mut self, alloc: Global) {
         if self.spare.is_none() {
             self.spare = Vec::with_capacity(alloc, SPARE_LEN).ok();
         }
