@@ -2,6 +2,7 @@
 ghost use Rattle.std.specs.Prelude.{◌<◌, ◌^◌, IfSome};
 ghost use Rattle.gate_node.specs.Passes.{ArePassesOf};
 
+mod counts;
 mod deletes;
 pub mod forty;
 mod long;
@@ -11,12 +12,14 @@ mod tallies;
 use crate::diversions::{divert, has_partition};
 use crate::exchanges::new_shared;
 use crate::playing::{Session, play, play_on};
+use crate::returns::counts::are_stored;
 use crate::returns::long::{Numbers, gets, puts};
 pub use crate::returns::rows::{PUTS_F_AND_G, PUTS_P};
 pub use crate::returns::tallies::gate_tally;
 use crate::returns::tallies::{Accepted, Side, has_accepted, reaps};
 use gate_node::{Open, Passes, Shared};
 use handoff::{Copied, Handoff, HandoffFault};
+use key_counts::KeyCounts;
 use std::alloc::Global;
 use std::sync::Wait;
 
@@ -50,6 +53,8 @@ pub enum Call {
     Puts(Numbers),
     /// Gets of these numbers, each shown with the first dot of its epoch of the fallback.
     Gets(Numbers),
+    /// So much is stored at all partitions.
+    Stores(KeyCounts),
 }
 
 /// A copy back with this budget: how many keys it copies, and how many are stuck and left.
@@ -228,6 +233,7 @@ pub fn comes<W: Wait>(rt: &W, alloc: Global, shared: &Shared, index: u16, call: 
         Call::Number(wanted) => handoff.diversion(index) == *wanted,
         Call::Puts(numbers) => puts(rt, alloc, shared, *numbers),
         Call::Gets(numbers) => gets(rt, alloc, shared, *numbers),
+        Call::Stores(wanted) => are_stored(rt, alloc, handoff, wanted),
     }
 }
 
