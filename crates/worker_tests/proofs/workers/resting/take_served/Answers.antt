@@ -1,6 +1,5 @@
-use Rattle.std.proofs.Common.{Vec, Global, map, sym, subst}
+use Rattle.std.proofs.Common.{map, sym, subst}
 use Rattle.job_pool.specs.Lists.{Every, concat}
-use Rattle.gate_node.specs.Gates.{Gates}
 use Rattle.session_pool.specs.Suspending.{CanGoOn}
 use Rattle.worker_tests.proofs.workers.resting.take_served.Goals as goal
 
