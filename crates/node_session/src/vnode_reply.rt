@@ -15,8 +15,7 @@ use crate::reply_frame::ReplyFrame;
 use crate::scratch::Scratch;
 use riak_msgs::{GetAsk, Reply, Text};
 use std::alloc::Global;
-use tomb_reaper::sweep;
-use vnode_core::{Answer, Ask, Plan, Reaped, Vnode};
+use vnode_core::{Answer, Ask, Plan, Reaped, Vnode, sweep};
 
 /// The reply for a vnode's answer to a change. No request asks for a reap, and one is replied to as a delete is; of a vnode that is
 /// closed, or that was asked for a copy, it is the error `moved`. It takes no memory.

@@ -14,4 +14,5 @@ pub mod Registers
 pub mod Rooms
 pub mod Showing
 pub mod Sound
+pub mod Sweeping
 pub mod Walking

@@ -8,4 +8,5 @@ pub mod Readiness
 pub mod Reaping
 pub mod Refusals
 pub mod Replies
+pub mod Sweeps
 pub mod Vnodes

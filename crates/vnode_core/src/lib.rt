@@ -22,6 +22,8 @@
 //! vnode that it was prepared from, and the two name the [`VnodeEvent`] that it makes in the gate's history, with its answer.
 //! [`histories_are_legal`] is the law of such a history.
 //!
+//! Dead keys stay, with their clocks, until a reap forgets them: [`sweep`] makes so many reaps at most, in key order.
+//!
 //! A vnode may stand beside another, as the fallback of a primary: [`is_copied`] says whether the primary has a key as the fallback has it
 //! now, and [`count_left`] how many keys it hasn't so.
 //!
@@ -67,6 +69,7 @@ mod ready;
 mod refusal;
 mod replies;
 mod stored_reply;
+mod sweeps;
 mod vnode;
 
 pub use ask::{Answer, Ask, Plan, Reaped};
@@ -86,4 +89,5 @@ pub use left::{count_left, is_copied};
 pub use refusal::Refusal;
 pub use rw_gate::Kept;
 pub use stored_reply::StoredReply;
+pub use sweeps::{Swept, sweep};
 pub use vnode::{Tally, Vnode, VnodeOver};

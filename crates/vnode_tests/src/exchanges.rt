@@ -5,7 +5,6 @@ mod closes;
 mod contexts;
 mod copies;
 mod deletes;
-mod forms;
 mod limits;
 mod marks;
 mod options;

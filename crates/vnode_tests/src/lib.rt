@@ -1,11 +1,22 @@
-//! Tests of `sibling_register`, `vnode_core` and `tomb_reaper`, from outside: the register, a vnode, and its reaps.
+//! Tests of `actor_epoch`, `dvv_set`, `clock_store`, `sibling_register`, `vnode_core` and `tomb_reaper`, from outside: contexts, epochs, clocks, what keeps
+//! the clocks of keys, the register, a vnode, and its reaps.
 //!
 //! They stand in a crate of their own, since a crate with tests is proved twice.
 #![tactic(auto)]
 
 #[cfg(test)]
+mod actors;
+#[cfg(test)]
+mod clocks;
+#[cfg(test)]
+mod epochs;
+#[cfg(test)]
 mod exchanges;
+#[cfg(test)]
+mod places;
 #[cfg(test)]
 mod reaping;
 #[cfg(test)]
 mod register;
+#[cfg(test)]
+mod storage;

@@ -352,12 +352,6 @@ fn is_own(own: Option<Dot>, wanted: Option<(u32, u64)>) -> bool {
     }
 }
 
-/// The last dot of the key "k" at a vnode; an error where memory was refused.
-fn own_of(vnode: &Vnode, alloc: Global) -> Result<Option<Dot>, Refusal> {
-    let key = key_of(alloc, b"k")?;
-    Ok(vnode.own(&key))
-}
-
 /// Whether a turn comes as expected; an error where memory was refused.
 fn goes_once(
     primary: &mut Vnode,
@@ -369,7 +363,7 @@ fn goes_once(
         Primary(steps) => Ok(taken(primary, alloc, steps) == steps.len()),
         Fallback(steps) => Ok(taken(fallback, alloc, steps) == steps.len()),
         Copy(which, wanted) => Ok(copy(primary, fallback, alloc, *which)? == *wanted),
-        Own(wanted) => Ok(is_own(own_of(primary, alloc)?, *wanted)),
+        Own(wanted) => Ok(is_own(primary.own(&key_of(alloc, b"k")?), *wanted)),
     }
 }
 

@@ -54,10 +54,10 @@ fn reserve_sync<S: ClockStore>(
     store.reserve_sync(alloc, key, place, other)
 }
 
-/// Whether a clock takes in what the context of these bytes saw (no bytes: nothing).
+/// Whether a clock takes in what the context of these bytes saw (no bytes: nothing), tried twice where memory is refused.
 fn discards(clock: &mut Clock<Option<Content>>, seen: &[u8]) -> bool {
     match Context::given(seen) {
-        Ok(Some(context)) => clock.discard(&context).is_ok(),
+        Ok(Some(context)) => clock.discard(&context).is_ok() || clock.discard(&context).is_ok(),
         Ok(None) => true,
         Err(_) => false,
     }
@@ -71,7 +71,7 @@ fn value_of(alloc: Global, kind: WriteKind) -> Result<Option<Content>, AllocErro
     }
 }
 
-/// Whether a clock has a write at B.
+/// Whether a clock has a write at B, tried twice where memory is refused.
 fn has_written(
     clock: &mut Clock<Option<Content>>,
     alloc: Global,
@@ -81,7 +81,10 @@ fn has_written(
         return true;
     };
     match value_of(alloc, kind) {
-        Ok(value) => clock.event(B, value).is_ok(),
+        Ok(value) => match clock.event(B, value) {
+            Ok(()) => true,
+            Err(refused) => clock.event(B, refused.value).is_ok(),
+        },
         Err(_) => false,
     }
 }

@@ -1,10 +1,10 @@
 use Rattle.std.proofs.Common.{◌∙◌, sym, ap, subst}
 use Rattle.vnode_machine.specs.Dead.{swept_keys}
 use Rattle.vnode_core.specs.Reaping.{key_given}
-use Rattle.tomb_reaper.specs.Sweeps.{RegistersReaps}
-use Rattle.tomb_reaper.proofs.Sweeping.{sweep-begins, sweep-goes-on, spent, used-up}
-use Rattle.tomb_reaper.proofs.sweep.Goals.{then-loop-reaped-test+else-reap_first, else-loop-reaped-test}
-use Rattle.tomb_reaper.proofs.sweep.Goals as goal
+use Rattle.vnode_core.specs.Sweeps.{RegistersReaps}
+use Rattle.vnode_core.proofs.Sweeping.{sweep-begins, sweep-goes-on, spent, used-up}
+use Rattle.vnode_core.proofs.sweeps.sweep.Goals.{then-loop-reaped-test+else-reap_first, else-loop-reaped-test}
+use Rattle.vnode_core.proofs.sweeps.sweep.Goals as goal
 
 pub loop-reaped-init : goal.loop-reaped-init
 loop-reaped-init c = sweep-begins c.args.vnode.now (key_given c.args.from) c.args.budget

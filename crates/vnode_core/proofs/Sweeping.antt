@@ -9,7 +9,7 @@ use Rattle.vnode_machine.specs.Dead.{dead_keys, has_dead, reaped, reaped_each, s
 use Rattle.clock_store.specs.declared.store.Reaped.TheVariants.{Gone}
 use Rattle.vnode_core.specs.Plans.{View, RegistersReap, RegistersFirstReap}
 use Rattle.vnode_core.specs.Reaping.{after_first_reap, LosesFirstDead}
-use Rattle.tomb_reaper.specs.Sweeps.{RegistersReaps, prepared_after}
+use Rattle.vnode_core.specs.Sweeps.{RegistersReaps, prepared_after}
 
 -- so many keys are reaped, and so many may still be
 pub record IsSweeping (old : View) (from : Option Key) (budget : ℕ) (now : View) (done : ℕ) : Type 0 where

@@ -1,7 +1,7 @@
 use Rattle.std.proofs.Common.{◌-◌}
 use Rattle.vnode_core.specs.Reaping.{key_given}
-use Rattle.tomb_reaper.proofs.Sweeping.{IsSweeping}
-use Rattle.tomb_reaper.proofs.sweep.Given as goal
+use Rattle.vnode_core.proofs.Sweeping.{IsSweeping}
+use Rattle.vnode_core.proofs.sweeps.sweep.Given as goal
 
 abbrev pub decreases-loop-reaped : goal.decreases-loop-reaped
 decreases-loop-reaped l = l.budget - l.reaped

@@ -1,3 +1,0 @@
-pub mod DeadRows
-pub mod Finding
-pub mod Rows
