@@ -24,7 +24,7 @@ fn settings_of(options: ServingOptions, ring: Ring) -> UntilSettings
 {
     let ServingOptions {
         connections,
-        idle_seconds,
+        waiting,
         workers,
         run,
         sweep,
@@ -35,7 +35,7 @@ fn settings_of(options: ServingOptions, ring: Ring) -> UntilSettings
         ring,
         run,
         sweep,
-        idle_seconds,
+        waiting,
     }
 }
 

@@ -44,6 +44,6 @@ pub use controlled::{Controlled, serve_controlled};
 pub use fault::ServeFault;
 pub use options::ServingOptions;
 pub use serving::{MAX_ACCEPT_TRIES, Served, Settings, serve_on};
-pub use socket_streams::{ReplyHalf, RequestHalf};
+pub use socket_streams::{ReplyHalf, RequestHalf, Waiting};
 pub use streams::pipe;
 pub use until::{ServedUntil, UntilSettings, serve_on_until};

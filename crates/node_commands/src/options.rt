@@ -2,13 +2,15 @@
 
 ghost use Rattle.std.specs.Prelude.{◌≤◌};
 
+use socket_streams::Waiting;
+
 /// How a server is asked to serve, whatever its ring and its listener.
 #[derive(Clone, Copy)]
 pub struct ServingOptions {
     /// After how many connections no more are accepted, if there is such a number.
     pub connections: Option<u64>,
-    /// After how many seconds without a byte a connection is closed, if it is.
-    pub idle_seconds: Option<u32>,
+    /// How the threads wait for their connections.
+    pub waiting: Waiting,
     /// How many threads serve, from 1 to 64.
     pub workers: u16,
     /// The run's number.

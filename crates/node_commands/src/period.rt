@@ -106,7 +106,7 @@ where
         IfSome settings.now.connections (λ limit. later.connections ≤ limit)) }
 {
     let RunWaits { accepting, workers } = waits;
-    let Ok(seats) = new_seats(rt, alloc, stop, workers, settings.idle_seconds) else {
+    let Ok(seats) = new_seats(rt, alloc, stop, workers, settings.waiting) else {
         return Err(ServeFault::NoMemory);
     };
     let Progress {

@@ -13,8 +13,8 @@ use log::Log;
 use ring_map::Ring;
 use session_pool::{NoPause, Served, serve};
 use socket_streams::{
-    Arrivals, Limits, LogSink, ReplyHalf, RequestHalf, RunWaits, Sessions, Stop, new_run_waits,
-    new_seats,
+    Arrivals, Limits, LogSink, ReplyHalf, RequestHalf, RunWaits, Sessions, Stop, Waiting,
+    new_run_waits, new_seats,
 };
 use std::alloc::Global;
 use std::io::{Read, Write};
@@ -37,8 +37,8 @@ pub struct UntilSettings {
     pub run: u32,
     /// How many dead keys are forgotten after an answer, at most.
     pub sweep: u32,
-    /// After how many seconds without a byte a connection is closed, if it is.
-    pub idle_seconds: Option<u32>,
+    /// How the threads wait for their connections.
+    pub waiting: Waiting,
 }
 
 /// What came of a server for as many clients as come.
@@ -122,7 +122,7 @@ where
         settings.connections ≡ Some outcome.connections) }
 {
     let RunWaits { accepting, workers } = waits;
-    let Ok(seats) = new_seats(rt, alloc, stop, workers, settings.idle_seconds) else {
+    let Ok(seats) = new_seats(rt, alloc, stop, workers, settings.waiting) else {
         return Err(ServeFault::NoMemory);
     };
     let limits = Limits {

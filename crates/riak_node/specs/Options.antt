@@ -57,7 +57,8 @@ module _ (found : Found) where
 
   pub record AreServingOptions (options : ServingOptions) : Type 0 where
     pub connections : IsNumberIfGiven 65535 (codes "connections") options.connections
-    pub idle : IsNumberIfGiven 4294967295 (codes "idle") options.idle_seconds
+    pub idle : IsNumberIfGiven 4294967295 (codes "idle") options.waiting.idle_seconds
+    pub spin : IsNumberIfGiven 1000 (codes "spin") options.waiting.spin_micros
     pub workers : IsNumber 1 64 (codes "workers") 4 options.workers
     pub run : IsNumber 1 4294967295 (codes "run") 1 options.run
     pub sweep : IsNumber 0 4294967295 (codes "sweep") 0 options.sweep

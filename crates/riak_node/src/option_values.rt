@@ -7,7 +7,7 @@ ghost use Rattle.riak_node.specs.Options.{ArePipeOptions, AreServeOptions, AreSt
 
 use crate::subcommand::{PipeOptions, ServeOptions, StepsOptions, Subcommand};
 use clap::ArgMatches;
-use node_commands::ServingOptions;
+use node_commands::{ServingOptions, Waiting};
 use std::net::{IpAddr, Ipv4Addr};
 
 /// The number of an option of 16 bits, or this one. `clap` puts in the defaults, and has refused what is out of range.
@@ -74,13 +74,25 @@ fn connections(found: &ArgMatches<'_>) -> Option<u64>
     }
 }
 
+/// How the threads of `serve` wait for their connections.
+fn waiting(found: &ArgMatches<'_>) -> Waiting
+    ensures idle { IsNumberIfGiven (found_of found.now) 4294967295 (codes "idle")
+        result.idle_seconds }
+    ensures spin { IsNumberIfGiven (found_of found.now) 1000 (codes "spin") result.spin_micros }
+{
+    Waiting {
+        idle_seconds: found.get_one::<u32>("idle"),
+        spin_micros: found.get_one::<u32>("spin"),
+    }
+}
+
 /// How `serve` serves its connections.
 fn serving_options(found: &ArgMatches<'_>) -> ServingOptions
     ensures { AreServingOptions (found_of found.now) result }
 {
     ServingOptions {
         connections: connections(found),
-        idle_seconds: found.get_one::<u32>("idle"),
+        waiting: waiting(found),
         workers: workers(found, 4),
         run: run(found),
         sweep: number(found, "sweep", 0),

@@ -53,6 +53,17 @@ pub(crate) fn idle<'a>(alloc: Global) -> Arg<'a> {
         )
 }
 
+/// For how long a worker spins.
+pub(crate) fn spin<'a>(alloc: Global) -> Arg<'a> {
+    Arg::new(alloc, "spin")
+        .long("spin")
+        .value_name("MICROS")
+        .value_parser(value_parser!(u32).range(1..=1000))
+        .help(
+            "Let a thread that waited no longer than so many microseconds, from 1 to 1000, wait for as long again without sleep. Without it each wait sleeps",
+        )
+}
+
 /// Whether the end of standard input ends serving.
 pub(crate) fn until_eof<'a>(alloc: Global) -> Arg<'a> {
     Arg::new(alloc, "until-eof")

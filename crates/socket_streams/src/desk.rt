@@ -6,6 +6,7 @@ use crate::lingering::{LOOK_MILLIS, Lingering};
 use crate::pause::PAUSE_MILLIS;
 use crate::slots::{Patience, Slots};
 use crate::stop::Stop;
+use crate::waiting::{Spin, Waiting};
 use crate::waits::{WAKER, Waits};
 use crate::worker_clock::WorkerClock;
 use job_pool::{Moved, Turn};
@@ -28,12 +29,12 @@ use std::{io, thread};
 ///
 /// A connection that goes on in a run is watched as a new one is, by that run's desk: its socket stays as it was when the connection was laid down, but
 /// that nothing is reported of it in between.
-#[derive(Drop)]
 pub struct SocketDesk<'s, X> {
     rt: &'s X,
     stop: &'s Stop,
     door: Arc<Door, Global>,
     waits: Waits,
+    spin: Spin,
     slots: Slots,
     /// The sockets of connections that have ended while their clients may still be sending.
     lingering: Lingering,
@@ -50,6 +51,28 @@ pub struct SocketDesk<'s, X> {
     is_stopping: bool,
     /// Whether it has seen that the run pauses.
     is_pausing: bool,
+}
+
+/// One call at each place where one is let go.
+impl<'s, X> Drop for SocketDesk<'s, X> {
+    fn drop(self) {
+        let SocketDesk {
+            rt: _rt,
+            stop: _stop,
+            door: _door,
+            waits: _waits,
+            spin: _spin,
+            slots: _slots,
+            lingering: _lingering,
+            clock: _clock,
+            now: _now,
+            round: _round,
+            unwatched: _unwatched,
+            has_started: _has_started,
+            is_stopping: _is_stopping,
+            is_pausing: _is_pausing,
+        } = self;
+    }
 }
 
 /// Has a connection's slot reported when bytes can be read or written.
@@ -80,23 +103,24 @@ fn note_events(slots: &mut Slots, events: &Events<Global>, now: u64, is_stopping
 }
 
 impl<'s, X: Clock + Wait> SocketDesk<'s, X> {
-    /// No connection is open. One may be silent for so many seconds, if there is a limit.
+    /// No connection is open, and it is to wait so.
     pub(crate) fn new(
         rt: &'s X,
         alloc: Global,
         stop: &'s Stop,
         door: Arc<Door, Global>,
         waits: Waits,
-        idle_seconds: Option<u32>,
+        waiting: Waiting,
     ) -> SocketDesk<'s, X> {
         SocketDesk {
             rt,
             stop,
             door,
             waits,
+            spin: Spin::new(waiting.spin_micros),
             slots: Slots::new(alloc),
             lingering: Lingering::new(rt, alloc),
-            clock: WorkerClock::new(rt, idle_seconds),
+            clock: WorkerClock::new(rt, waiting.idle_seconds),
             now: 0,
             round: None,
             unwatched: None,
@@ -202,22 +226,29 @@ impl<'s, X: Clock + Wait> SocketDesk<'s, X> {
     }
 
     /// How long may be waited for what is ready next; for ever, where it is None.
-    fn limit(&self, is_idle: bool) -> Option<Duration> {
-        if self.slots.ready() > 0 || self.is_called(is_idle) {
-            Some(Duration::from_millis(0))
-        } else if !self.lingering.is_empty() {
-            Some(Duration::from_millis(LOOK_MILLIS))
-        } else {
-            self.clock.limit()
+    fn limit(&self) -> Option<Duration> {
+        if self.lingering.is_empty() {
+            return self.clock.limit();
         }
+        Some(Duration::from_millis(LOOK_MILLIS))
+    }
+
+    /// Looks once for what is ready, where there is something to do, and else waits for it.
+    fn wait_for(&mut self, is_busy: bool) -> io::Result<()> {
+        if is_busy {
+            let now = Some(Duration::from_millis(0));
+            return self.waits.poll.poll(&mut self.waits.events, now);
+        }
+        let limit = self.limit();
+        self.spin.wait(self.rt, &mut self.waits, limit)
     }
 
     /// Waits until a socket is ready, the bell is rung, or it is time to look. Where the wait fails, for a short time.
     fn poll(&mut self, is_idle: bool) {
         // who wakes it from now on writes to its waker, and what was to wake it before is looked for behind this
         self.door.set_waiting(true);
-        let limit = self.limit(is_idle);
-        if self.waits.poll.poll(&mut self.waits.events, limit).is_err() {
+        let is_busy = self.slots.ready() > 0 || self.is_called(is_idle);
+        if self.wait_for(is_busy).is_err() {
             thread::sleep(self.rt, Duration::from_millis(PAUSE_MILLIS));
         }
         self.door.set_waiting(false);

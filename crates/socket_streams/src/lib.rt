@@ -3,7 +3,7 @@
 //!
 //! ```text
 //! let (waits, stop) = new_run_waits(&rt, alloc, 4)?;                          // four workers; each run has its own
-//! let seats = new_seats(&rt, alloc, &stop, waits.workers, Some(60))?;         // for each a sink, a readiness and a bell
+//! let seats = new_seats(&rt, alloc, &stop, waits.workers, waiting)?;          // for each a sink, a readiness and a bell
 //! let limits = Limits { connections: Some(9), counts_refused: true, can_stop: true, tries: None };
 //! let arrivals = Arrivals::new(&rt, alloc, &listener, waits.accepting, &shared, &stop, limits)?;
 //! let mut sessions = Sessions::new(alloc, arrivals, rested);                  // `resting` of the run before; none at first
@@ -41,6 +41,7 @@ mod sessions;
 mod slots;
 mod spare;
 mod stop;
+mod waiting;
 mod waits;
 mod worker_clock;
 
@@ -53,6 +54,7 @@ pub use limits::Limits;
 pub use log_sink::LogSink;
 pub use sessions::{Sessions, SocketSession};
 pub use stop::Stop;
+pub use waiting::Waiting;
 pub use waits::{
     RunWaits, SocketPost, SocketSeat, Waits, WorkerWaits, new_posts, new_run_waits, new_seats,
 };

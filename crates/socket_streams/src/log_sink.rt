@@ -21,7 +21,6 @@ type ConnectionEnd = SessionEnd<RequestHalf, ReplyHalf>;
 
 /// Writes a line to the log for each end, and lets the halves of that connection go. Of one that rests it writes nothing: its slot is told at the door
 /// that the socket stays open. It keeps nothing: clauses alone see the ends that it was told, as their list.
-#[derive(Drop)]
 pub struct LogSink<'a, X> {
     rt: &'a X,
     alloc: Global,
@@ -29,6 +28,19 @@ pub struct LogSink<'a, X> {
     /// For how many slots the worker has room, or is to find it at the door.
     room: usize,
     ends: GhostList<NumberedEnd<ConnectionEnd>>,
+}
+
+/// One call at each place where one is let go.
+impl<'a, X> Drop for LogSink<'a, X> {
+    fn drop(self) {
+        let LogSink {
+            rt: _rt,
+            alloc: _alloc,
+            door: _door,
+            room: _room,
+            ends: _ends,
+        } = self;
+    }
 }
 
 impl<'a, X> Model for LogSink<'a, X> {

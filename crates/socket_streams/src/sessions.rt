@@ -30,12 +30,22 @@ pub type SocketSession = Suspended<RequestHalf, ReplyHalf>;
 /// next, next, next      c, b, a
 /// next                  a session for the first connection that is accepted; none, once no more are to be
 /// ```
-#[derive(Drop)]
 pub struct Sessions<'a, X, L> {
     alloc: Global,
     arrivals: Arrivals<'a, X, L>,
     /// Those that rest and weren't given yet.
     rested: Vec<Vec<SocketSession>>,
+}
+
+/// One call at each place where one is let go.
+impl<'a, X, L> Drop for Sessions<'a, X, L> {
+    fn drop(self) {
+        let Sessions {
+            alloc: _alloc,
+            arrivals: _arrivals,
+            rested: _rested,
+        } = self;
+    }
 }
 
 impl<'a, X, L> Model for Sessions<'a, X, L> {

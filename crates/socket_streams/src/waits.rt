@@ -6,6 +6,7 @@ use crate::desk::SocketDesk;
 use crate::door::{Door, SocketBell};
 use crate::log_sink::LogSink;
 use crate::stop::Stop;
+use crate::waiting::Waiting;
 use job_pool::Post;
 use mio::{Events, Poll, Token, Waker};
 use session_pool::Seat;
@@ -23,10 +24,19 @@ pub(crate) const WAKER: usize = 18_446_744_073_709_551_615;
 const MAX_EVENTS: usize = 256;
 
 /// What a thread waits with.
-#[derive(Drop)]
 pub struct Waits {
     pub(crate) poll: Poll,
     pub(crate) events: Events<Global>,
+}
+
+/// One call at each place where one is let go.
+impl Drop for Waits {
+    fn drop(self) {
+        let Waits {
+            poll: _poll,
+            events: _events,
+        } = self;
+    }
 }
 
 /// What a worker waits with, and what it shares with those who wake it.
@@ -92,13 +102,13 @@ fn new_post<'s, X: Clock + Wait>(
     alloc: Global,
     stop: &'s Stop,
     worker: WorkerWaits,
-    idle_seconds: Option<u32>,
+    waiting: Waiting,
 ) -> io::Result<SocketPost<'s, X>> {
     let WorkerWaits { waits, door } = worker;
     let of_bell = Arc::try_clone(&door)?;
     Ok(Post {
         readiness: Shown {
-            streams: SocketDesk::new(rt, alloc, stop, door, waits, idle_seconds),
+            streams: SocketDesk::new(rt, alloc, stop, door, waits, waiting),
         },
         bell: SocketBell { door: of_bell },
     })
@@ -110,12 +120,12 @@ fn new_seat<'a: 's, 's, X: Clock + Wait>(
     alloc: Global,
     stop: &'s Stop,
     worker: WorkerWaits,
-    idle_seconds: Option<u32>,
+    waiting: Waiting,
 ) -> io::Result<SocketSeat<'a, 's, X>>
     ensures { IfOk result (λ seat. seat.sink ≡ []) }
 {
     let of_sink = Arc::try_clone(&worker.door)?;
-    let Post { readiness, bell } = new_post(rt, alloc, stop, worker, idle_seconds)?;
+    let Post { readiness, bell } = new_post(rt, alloc, stop, worker, waiting)?;
     Ok(Seat {
         sink: LogSink::new(rt, alloc, of_sink),
         readiness: readiness.streams,
@@ -133,28 +143,32 @@ pub fn new_posts<'s, X: Clock + Wait>(
 ) -> io::Result<Vec<SocketPost<'s, X>>>
     ensures { IfOk result (λ posts. length posts.items ≡ length workers.items) }
 {
+    let waiting = Waiting {
+        idle_seconds: None,
+        spin_micros: None,
+    };
     let mut posts = Vec::new(alloc);
     for worker in workers {
-        posts.push(new_post(rt, alloc, stop, worker, None)?)?;
+        posts.push(new_post(rt, alloc, stop, worker, waiting)?)?;
     }
     Ok(posts)
 }
 
-/// What the workers of a run that keeps no ends are started with. A connection is closed after so many seconds without a byte in this run, if it
-/// is. Refused where memory is.
+/// What the workers of a run that keeps no ends are started with, which wait so: a connection has been silent since the run began at most. Refused
+/// where memory is.
 pub fn new_seats<'a: 's, 's, X: Clock + Wait>(
     rt: &'a X,
     alloc: Global,
     stop: &'s Stop,
     workers: Vec<WorkerWaits>,
-    idle_seconds: Option<u32>,
+    waiting: Waiting,
 ) -> io::Result<Vec<SocketSeat<'a, 's, X>>>
     ensures count { IfOk result (λ seats. length seats.items ≡ length workers.items) }
     ensures new { IfOk result (λ seats. Every (λ seat. seat.sink ≡ []) seats.items) }
 {
     let mut seats = Vec::new(alloc);
     for worker in workers {
-        seats.push(new_seat(rt, alloc, stop, worker, idle_seconds)?)?;
+        seats.push(new_seat(rt, alloc, stop, worker, waiting)?)?;
     }
     Ok(seats)
 }

@@ -4,7 +4,7 @@ use crate::serving::clients::{Action, Ports, Step, take_all};
 use crate::serving::listener::listen;
 use log::sink::Locked;
 use log::{LevelFilter, Log, Logged};
-use node_commands::{Controlled, ServeFault, UntilSettings, serve_controlled};
+use node_commands::{Controlled, ServeFault, UntilSettings, Waiting, serve_controlled};
 use ring_map::Ring;
 use std::alloc::Global;
 use std::io::{ErrorKind, Read, Write};
@@ -241,7 +241,10 @@ fn serves<'a, R: Log + Clock + Net + Threads + Wait + Sync>(
         ring,
         run: 1,
         sweep: 0,
-        idle_seconds: None,
+        waiting: Waiting {
+            idle_seconds: None,
+            spin_micros: Some(50),
+        },
     };
     let (unanswered, unwritten) = (AtomicUsize::new(1), AtomicUsize::new(1));
     let answers = Transcript {

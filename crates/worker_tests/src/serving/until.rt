@@ -10,7 +10,7 @@ use crate::serving::served::{
 };
 use log::sink::Locked;
 use log::{LevelFilter, Log, Logged};
-use node_commands::{UntilSettings, serve_on_until};
+use node_commands::{UntilSettings, Waiting, serve_on_until};
 use ring_map::Ring;
 use std::alloc::Global;
 use std::io::{ErrorKind, Read};
@@ -50,7 +50,7 @@ struct Server {
     limit: Option<u64>,
     /// Whether there is an input whose end ends it.
     has_input: bool,
-    idle_seconds: Option<u32>,
+    waiting: Waiting,
     steps: &'static [Step],
     connections: u64,
     /// How the connections of the first clients end, as the log says behind their addresses.
@@ -154,13 +154,25 @@ const ONE_TOO_MANY: &[Step] = &[
 /// The line of the totals of a put and a get.
 const ONE_OF_EACH: Option<&str> = Some("gets 1 puts 1 deletes 0 refusals 0 reaps 0\n");
 
+/// Workers that sleep in each wait, and close nobody for silence.
+const ASLEEP: Waiting = Waiting {
+    idle_seconds: None,
+    spin_micros: None,
+};
+
+/// Workers that close who is silent for a second, and spin.
+const ONE_SECOND: Waiting = Waiting {
+    idle_seconds: Some(1),
+    spin_micros: Some(50),
+};
+
 /// One worker that serves until its input ends, and whom no client comes to. Rows say what is other.
 const ONE_WORKER: Server = Server {
     shows: "",
     workers: 1,
     limit: None,
     has_input: true,
-    idle_seconds: None,
+    waiting: ASLEEP,
     steps: &[],
     connections: 0,
     ends: &[],
@@ -229,7 +241,7 @@ const SERVERS: &[Server] = &[
     },
     Server {
         shows: "who is silent for too long is closed",
-        idle_seconds: Some(1),
+        waiting: ONE_SECOND,
         steps: SILENT,
         connections: 2,
         totals: ONE_OF_EACH,
@@ -257,7 +269,7 @@ const SERVERS: &[Server] = &[
         shows: "the last of so many may end by its silence",
         limit: Some(1),
         has_input: false,
-        idle_seconds: Some(1),
+        waiting: ONE_SECOND,
         steps: ONE_SILENT,
         connections: 1,
         ..ONE_WORKER
@@ -307,7 +319,7 @@ fn serves<R: Log + Clock + Net + Threads + Wait + Sync>(
         ring,
         run: 1,
         sweep: 0,
-        idle_seconds: server.idle_seconds,
+        waiting: server.waiting,
     };
     let mut written = Vec::new(alloc);
     let input = if server.has_input {
