@@ -37,7 +37,6 @@ use vnode_core::{Ask, Vnode};
 /// In a partition that is diverted all of this is so at its fallback, whose history is its own, and no dead key is forgotten there; the
 /// primary is not asked. Where the fallback is closed, all of this is so at the primary, at a position behind as many events as the close
 /// says, or else the answer is `moved`. A node that has seen the close asks the fallback no more.
-#[derive(Drop)]
 pub struct GateNode<
     'a,
     W: Wait,
@@ -61,6 +60,24 @@ pub struct GateNode<
     pub(crate) reserve: Option<&'a Reserve>,
     /// The partitions of the keys that the thread met, if it remembers them.
     pub(crate) partitions: Option<&'a PartitionCache>,
+}
+
+/// One call at each place where one is let go.
+impl<'a, W: Wait, T: Turnstile, G: Ledger, P: Ledger, D: Ledger, E: Ledger, R: Ledger> Drop
+    for GateNode<'a, W, T, G, P, D, E, R> {
+    fn drop(self) {
+        let GateNode {
+            rt: _rt,
+            shared: _shared,
+            turnstile: _turnstile,
+            counter: _counter,
+            primaries: _primaries,
+            size: _size,
+            fallbacks: _fallbacks,
+            reserve: _reserve,
+            partitions: _partitions,
+        } = self;
+    }
 }
 
 impl<'a, W: Wait, T: Turnstile, G: Ledger, P: Ledger, D: Ledger, E: Ledger, R: Ledger> Model

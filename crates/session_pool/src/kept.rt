@@ -1,5 +1,5 @@
 //! What the workers of a run keep for themselves.
-ghost use Rattle.std.specs.Prelude.{◌≡◌};
+ghost use Rattle.std.specs.Prelude.{◌≡◌, length, IfOk};
 
 use gate_node::{GateNode, PartitionCache, Reserve, Turnstile};
 use ring_map::Ring;
@@ -11,12 +11,21 @@ use std::sync::{Mutex, Wait};
 const PLACES: usize = 8_192;
 
 /// What a worker keeps, and lends to the nodes of its sessions.
-#[derive(Drop)]
 pub(crate) struct KeptByWorker {
     /// What it keeps back, of which nothing is there at first.
     pub(crate) reserve: Reserve,
     /// The partitions of the keys that it met. None where there is one partition.
     pub(crate) partitions: Option<PartitionCache>,
+}
+
+/// One call at each place where one is let go.
+impl Drop for KeptByWorker {
+    fn drop(self) {
+        let KeptByWorker {
+            reserve: _reserve,
+            partitions: _partitions,
+        } = self;
+    }
 }
 
 impl KeptByWorker {
@@ -34,15 +43,26 @@ impl KeptByWorker {
 }
 
 /// What the workers of a run keep, in their order.
-#[derive(Drop)]
 pub(crate) struct Kept {
     pub(crate) workers: Vec<KeptByWorker>,
     /// Whose reserve is being filled has it.
     pub(crate) filling: Mutex<()>,
 }
 
+/// One call at each place where one is let go.
+impl Drop for Kept {
+    fn drop(self) {
+        let Kept {
+            workers: _workers,
+            filling: _filling,
+        } = self;
+    }
+}
+
 /// What so many workers keep on this ring.
-pub(crate) fn new_kept(alloc: Global, ring: Ring, count: usize) -> Result<Kept, AllocError> {
+pub(crate) fn new_kept(alloc: Global, ring: Ring, count: usize) -> Result<Kept, AllocError>
+    ensures { IfOk result (λ kept. length kept.workers.items ≡ count) }
+{
     let mut workers = Vec::with_capacity(alloc, count)?;
     for _ in 0..count {
         workers.push(KeptByWorker::new(alloc, ring))?;

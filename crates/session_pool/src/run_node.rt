@@ -29,7 +29,6 @@ use std::sync::ledger::Ledger;
 /// let node = RunNode::resumed(later, GateNode::new(rt, later, &book, other, passes, &Open), rest);
 /// course.step(alloc, &mut reader, &mut writer, &mut node, &mut scratch)      // goes on, over the fallback of partition 0
 /// ```
-#[derive(Drop)]
 pub struct RunNode<
     'a,
     W: Wait,
@@ -46,6 +45,19 @@ pub struct RunNode<
     at: GhostList<SeenGates>,
     /// Where it stood when it went on.
     rest: Rest,
+}
+
+/// One call at each place where one is let go.
+impl<'a, W: Wait, T: Turnstile, G: Ledger, P: Ledger, D: Ledger, E: Ledger, L: Ledger> Drop
+    for RunNode<'a, W, T, G, P, D, E, L> {
+    fn drop(self) {
+        let RunNode {
+            node: _node,
+            shared: _shared,
+            at: _at,
+            rest: _rest,
+        } = self;
+    }
 }
 
 impl<'a, W: Wait, T: Turnstile, G: Ledger, P: Ledger, D: Ledger, E: Ledger, L: Ledger> Model

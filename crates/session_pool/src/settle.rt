@@ -20,7 +20,6 @@ use std::io::{Read, Write};
 use std::sync::ledger::Ledger;
 
 /// A place for what each worker of a run leaves, made before the run, so that none of it is lost for want of memory.
-#[derive(Drop)]
 pub(crate) struct Places<
     R: Read,
     W: Write,
@@ -34,6 +33,49 @@ pub(crate) struct Places<
     pub(crate) stocks: Vec<Stock<G, P, D, E, L>>,
     pub(crate) sinks: Vec<K>,
     pub(crate) resting: Vec<Vec<Suspended<R, W>>>,
+}
+
+/// One call at each place where one is let go.
+impl<
+    R: Read + Drop,
+    W: Write + Drop,
+    K: Drop,
+    G: Ledger,
+    P: Ledger,
+    D: Ledger,
+    E: Ledger,
+    L: Ledger,
+> Drop for Places<R, W, K, G, P, D, E, L> {
+    fn drop(self) {
+        let Places {
+            stocks: _stocks,
+            sinks: _sinks,
+            resting: _resting,
+        } = self;
+    }
+}
+
+impl<R: Read, W: Write, K, G: Ledger, P: Ledger, D: Ledger, E: Ledger, L: Ledger> Places<
+    R,
+    W,
+    K,
+    G,
+    P,
+    D,
+    E,
+    L,
+> {
+    /// The lists.
+    fn into_lists(self) -> (Vec<Stock<G, P, D, E, L>>, Vec<K>, Vec<Vec<Suspended<R, W>>>)
+        ensures { (result.0 ≡ self.stocks) × (result.1 ≡ self.sinks) × (result.2 ≡ self.resting) }
+    {
+        let Places {
+            stocks,
+            sinks,
+            resting,
+        } = self;
+        (stocks, sinks, resting)
+    }
 }
 
 /// Places for so many workers.
@@ -136,11 +178,7 @@ where
         given,
         refused,
     } = told;
-    let Places {
-        stocks,
-        sinks,
-        resting,
-    } = places;
+    let (stocks, sinks, resting) = places.into_lists();
     let apart = take_apart(sinks, resting, tellers, seen);
     let Some(totals) = close_stocks(book, rest, stocks_of(stocks, workers)) else {
         return Err(PoolFault::NoMemory);

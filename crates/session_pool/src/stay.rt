@@ -24,7 +24,6 @@ use std::sync::ledger::Ledger;
 /// A session that goes on over the gates of a run, and may be left at any time.
 ///
 /// Contracts see its node, what it does next and has counted, its streams, and where it began; and that it has come so far since then.
-#[derive(Drop)]
 pub struct Stay<
     'a,
     X: Wait,
@@ -42,6 +41,30 @@ pub struct Stay<
     pub(crate) reader: R,
     pub(crate) writer: W,
     pub(crate) origin: Began,
+}
+
+/// One call at each place where one is let go.
+impl<
+    'a,
+    X: Wait,
+    T: Turnstile,
+    R: Read + Drop,
+    W: Write + Drop,
+    G: Ledger,
+    P: Ledger,
+    D: Ledger,
+    E: Ledger,
+    L: Ledger,
+> Drop for Stay<'a, X, T, R, W, G, P, D, E, L> {
+    fn drop(self) {
+        let Stay {
+            node: _node,
+            course: _course,
+            reader: _reader,
+            writer: _writer,
+            origin: _origin,
+        } = self;
+    }
 }
 
 impl<

@@ -36,7 +36,6 @@ pub(crate) fn either(first: bool, second: bool) -> bool
 /// book was full in one of its sessions.
 ///
 /// Contracts see too how all its sessions were left.
-#[derive(Drop)]
 pub struct Teller<H: OfGates, R: Read, W: Write, K: EndSink<R, W>> {
     sink: K,
     seen: Passes,
@@ -44,6 +43,21 @@ pub struct Teller<H: OfGates, R: Read, W: Write, K: EndSink<R, W>> {
     resting: Vec<Suspended<R, W>>,
     told: GhostList<NumberedEnd<LeftSession<R, W>>>,
     of: PhantomData<H>,
+}
+
+/// One call at each place where one is let go.
+impl<H: OfGates, R: Read + Drop, W: Write + Drop, K: EndSink<R, W> + Drop> Drop
+    for Teller<H, R, W, K> {
+    fn drop(self) {
+        let Teller {
+            sink: _sink,
+            seen: _seen,
+            is_book_full: _is_book_full,
+            resting: _resting,
+            told: _told,
+            of: _of,
+        } = self;
+    }
 }
 
 impl<H: OfGates, R: Read, W: Write, K: EndSink<R, W>> Model for Teller<H, R, W, K> {

@@ -14,7 +14,6 @@ use std::sync::ledger::Ledger;
 
 /// What a worker waits with, which is shown the streams of a session; and the worker's reserve, which its own thread fills once all threads were
 /// started, one worker behind the other: an allocator may take much more for a thread for a moment than what it keeps.
-#[derive(Drop)]
 pub(crate) struct Watch<'a, Y> {
     streams: Y,
     kept: &'a Kept,
@@ -22,6 +21,19 @@ pub(crate) struct Watch<'a, Y> {
     place: usize,
     is_filled: bool,
     alloc: Global,
+}
+
+/// One call at each place where one is let go.
+impl<'a, Y: Drop> Drop for Watch<'a, Y> {
+    fn drop(self) {
+        let Watch {
+            streams: _streams,
+            kept: _kept,
+            place: _place,
+            is_filled: _is_filled,
+            alloc: _alloc,
+        } = self;
+    }
 }
 
 impl<'a, Y> Watch<'a, Y> {

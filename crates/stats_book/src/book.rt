@@ -15,9 +15,15 @@ use std::sync::ledger::Ledger;
 /// The numbers of a node, which threads raise by their shares, one at a time.
 ///
 /// Its type parameters name the ledgers of the gets, puts, deletes, refusals (errors) and reaps.
-#[derive(Drop)]
 pub struct Book<G: Ledger, P: Ledger, D: Ledger, E: Ledger, R: Ledger> {
     pub(crate) sums: Mutex<Sums<G, P, D, E, R>>,
+}
+
+/// One call at each place where one is let go.
+impl<G: Ledger, P: Ledger, D: Ledger, E: Ledger, R: Ledger> Drop for Book<G, P, D, E, R> {
+    fn drop(self) {
+        let Book { sums: _sums } = self;
+    }
 }
 
 /// A book and all its shares.
@@ -47,6 +53,12 @@ impl<G: Ledger, P: Ledger, D: Ledger, E: Ledger, R: Ledger> Book<G, P, D, E, R> 
         let sums = Mutex::new(sums);
         Ok((Book { sums }, shares))
     }
+
+    /// Its numbers.
+    pub(crate) fn into_sums(self) -> Sums<G, P, D, E, R> {
+        let Book { sums } = self;
+        sums.into_inner()
+    }
 }
 
 /// The numbers of a book: the sums of what its shares have counted.
@@ -59,6 +71,5 @@ pub fn close<G: Ledger, P: Ledger, D: Ledger, E: Ledger, R: Ledger>(
     requires all { AllAre (vec_len shares) G.parts P.parts D.parts E.parts R.parts }
     ensures { result ≡ sum_of shares.items }
 {
-    let Book { sums } = book;
-    sums.into_inner().close(shares)
+    book.into_sums().close(shares)
 }

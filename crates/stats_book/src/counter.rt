@@ -16,13 +16,25 @@ use std::sync::ledger::Ledger;
 ///
 /// It counts by itself, and takes no lock for a reply: the share and the book rise when it is taken apart. A reply never waits for room: where a number would
 /// pass 18,446,744,073,709,551,615 it stays, and the counter remembers that.
-#[derive(Drop)]
 pub struct ReplyCounter<'a, G: Ledger, P: Ledger, D: Ledger, E: Ledger, R: Ledger> {
     book: &'a Book<G, P, D, E, R>,
     share: Share<G, P, D, E, R>,
     /// What was counted, and isn't in the share yet.
     since: Totals,
     is_book_full: bool,
+}
+
+/// One call at each place where one is let go.
+impl<'a, G: Ledger, P: Ledger, D: Ledger, E: Ledger, R: Ledger> Drop
+    for ReplyCounter<'a, G, P, D, E, R> {
+    fn drop(self) {
+        let ReplyCounter {
+            book: _book,
+            share: _share,
+            since: _since,
+            is_book_full: _is_book_full,
+        } = self;
+    }
 }
 
 impl<'a, G: Ledger, P: Ledger, D: Ledger, E: Ledger, R: Ledger> Model

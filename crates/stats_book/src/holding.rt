@@ -86,26 +86,6 @@ impl<G: Ledger, P: Ledger, D: Ledger, E: Ledger, R: Ledger> Holding<G, P, D, E, 
         split
     }
 
-    /// Takes one share more.
-    pub(crate) fn merge(&mut self, share: Share<G, P, D, E, R>)
-        ensures shares { self.new.shares ≡ self.old.shares + 1 }
-        ensures counted { self.new.counted ≡ both self.old.counted share }
-        ensures apart { self.new.shares ≤ G.parts }
-    {
-        let Share {
-            gets,
-            puts,
-            deletes,
-            refusals,
-            reaps,
-        } = share;
-        gets.merge_into(&mut self.gets);
-        puts.merge_into(&mut self.puts);
-        deletes.merge_into(&mut self.deletes);
-        refusals.merge_into(&mut self.refusals);
-        reaps.merge_into(&mut self.reaps);
-    }
-
     /// These shares and others.
     pub(crate) fn merge_all(self, shares: Vec<Share<G, P, D, E, R>>) -> Holding<G, P, D, E, R>
         ensures shares { result.shares ≡ self.shares + vec_len shares }
@@ -114,7 +94,7 @@ impl<G: Ledger, P: Ledger, D: Ledger, E: Ledger, R: Ledger> Holding<G, P, D, E, 
         let mut all = self;
         let mut others = shares.into_iter();
         while let Some(share) = others.next() {
-            all.merge(share);
+            share.merge_into(&mut all);
         }
         all
     }

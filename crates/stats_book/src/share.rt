@@ -1,11 +1,12 @@
 //! A worker's share of a book.
-ghost use Rattle.std.specs.Prelude.{◌≡◌, IfErr, IfOk, IsErrOf, IsOkUnless, MatchResult};
+ghost use Rattle.std.specs.Prelude.{◌≡◌, ◌+◌, ◌≤◌, IfErr, IfOk, IsErrOf, IsOkUnless, MatchResult};
 ghost use Rattle.stats_book.specs.Counting.{ArePastFull, IsFull, both, raised};
 ghost use Rattle.stats_book.specs.Holdings.{AllAre};
 
 use crate::book::Book;
 use crate::count::Part;
 use crate::fault::BookFault;
+use crate::holding::Holding;
 use crate::quantity::Quantity;
 use crate::totals::Totals;
 use std::marker::Model;
@@ -16,13 +17,25 @@ use std::sync::ledger::Ledger;
 ///
 /// Its type parameters name the ledgers of the gets, puts, deletes, refusals (errors) and reaps, as those of its book do.
 /// A share that is let go takes its numbers with it, so that its book can't be closed any more.
-#[derive(Drop)]
 pub struct Share<G: Ledger, P: Ledger, D: Ledger, E: Ledger, R: Ledger> {
     pub(crate) gets: Part<G>,
     pub(crate) puts: Part<P>,
     pub(crate) deletes: Part<D>,
     pub(crate) refusals: Part<E>,
     pub(crate) reaps: Part<R>,
+}
+
+/// One call at each place where one is let go.
+impl<G: Ledger, P: Ledger, D: Ledger, E: Ledger, R: Ledger> Drop for Share<G, P, D, E, R> {
+    fn drop(self) {
+        let Share {
+            gets: _gets,
+            puts: _puts,
+            deletes: _deletes,
+            refusals: _refusals,
+            reaps: _reaps,
+        } = self;
+    }
 }
 
 impl<G: Ledger, P: Ledger, D: Ledger, E: Ledger, R: Ledger> Model for Share<G, P, D, E, R> {
@@ -74,5 +87,25 @@ impl<G: Ledger, P: Ledger, D: Ledger, E: Ledger, R: Ledger> Share<G, P, D, E, R>
             → IfErr result (λ _. ArePastFull self.old more.now) }
     {
         book.sums.lock(rt).add_all(self, more)
+    }
+
+    /// Adds it to those in one hand.
+    pub(crate) fn merge_into(self, others: &mut Holding<G, P, D, E, R>)
+        ensures shares { others.new.shares ≡ others.old.shares + 1 }
+        ensures counted { others.new.counted ≡ both others.old.counted self }
+        ensures apart { others.new.shares ≤ G.parts }
+    {
+        let Share {
+            gets,
+            puts,
+            deletes,
+            refusals,
+            reaps,
+        } = self;
+        gets.merge_into(&mut others.gets);
+        puts.merge_into(&mut others.puts);
+        deletes.merge_into(&mut others.deletes);
+        refusals.merge_into(&mut others.refusals);
+        reaps.merge_into(&mut others.reaps);
     }
 }

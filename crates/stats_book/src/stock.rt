@@ -18,13 +18,25 @@ use std::sync::ledger::Ledger;
 /// All shares of a book but those that are out. Contracts see what those that came back have counted.
 ///
 /// A share is out from the call that takes it to the one that gives it back, and is not taken again. They take no memory.
-#[derive(Drop)]
 pub struct Stock<G: Ledger, P: Ledger, D: Ledger, E: Ledger, R: Ledger> {
     rest: Holding<G, P, D, E, R>,
     left: u64,
     done: Holding<G, P, D, E, R>,
     back: u64,
     parts: u64,
+}
+
+/// One call at each place where one is let go.
+impl<G: Ledger, P: Ledger, D: Ledger, E: Ledger, R: Ledger> Drop for Stock<G, P, D, E, R> {
+    fn drop(self) {
+        let Stock {
+            rest: _rest,
+            left: _left,
+            done: _done,
+            back: _back,
+            parts: _parts,
+        } = self;
+    }
 }
 
 impl<G: Ledger, P: Ledger, D: Ledger, E: Ledger, R: Ledger> Model for Stock<G, P, D, E, R> {
@@ -91,8 +103,29 @@ impl<G: Ledger, P: Ledger, D: Ledger, E: Ledger, R: Ledger> Stock<G, P, D, E, R>
     pub fn give_back(&mut self, share: Share<G, P, D, E, R>)
         ensures { self.new ≡ both self.old share }
     {
-        self.done.merge(share);
+        share.merge_into(&mut self.done);
         self.back += 1;
+    }
+
+    /// All shares of the book, where they have come back. None where one is out.
+    fn into_whole(self) -> Option<Holding<G, P, D, E, R>>
+        ensures counted { IfSome result (λ all. all.counted ≡ self) }
+        ensures all { IfSome result (λ all.
+            AllAre all.shares G.parts P.parts D.parts E.parts R.parts) }
+    {
+        let Stock {
+            rest,
+            left,
+            done,
+            back,
+            parts,
+        } = self;
+        if left.checked_add(back) != Some(parts) {
+            return None;
+        }
+        let mut all = rest;
+        all.join(done);
+        Some(all)
     }
 }
 
@@ -184,18 +217,6 @@ pub fn close_stock<G: Ledger, P: Ledger, D: Ledger, E: Ledger, R: Ledger>(
 ) -> Option<Totals>
     ensures { IfSome result (λ totals. totals ≡ stock) }
 {
-    let Stock {
-        rest,
-        left,
-        done,
-        back,
-        parts,
-    } = stock;
-    if left.checked_add(back) != Some(parts) {
-        return None;
-    }
-    let mut all = rest;
-    all.join(done);
-    let Book { sums } = book;
-    Some(sums.into_inner().close_held(all))
+    let all = stock.into_whole()?;
+    Some(book.into_sums().close_held(all))
 }
