@@ -105,7 +105,8 @@ impl FramedReply {
     /// Whether it is lost since memory was refused.
     #[inline(always)]
     pub fn is_refused(&self) -> bool
-        ensures { result ≡ true → self.now.put ≡ Err FrameFault.NoMemory }
+        ensures lost { result ≡ true → self.now.put ≡ Err FrameFault.NoMemory }
+        ensures told { self.now.put ≡ Err FrameFault.NoMemory → result ≡ true }
     {
         match self.put {
             Err(FrameFault::NoMemory) => true,
