@@ -1,11 +1,11 @@
 -- Gates that were made round new vnodes, and what is answered at them.
-use Rattle.std.proofs.Common.{◌≡◌, ◌∙◌, ◌+◌, ◌<◌, ◌≤◌, ◌^◌, ℕ, List, [], ◌∷◌, length, map, refl, sym, ap, subst, arith}
-use Rattle.std.specs.Prelude.{Option, Some, slice_get, slice_set, get_or, zero, suc}
+use Rattle.std.proofs.Common.{◌≡◌, ◌∙◌, ◌<◌, ℕ, List, length, map, refl, sym, ap, arith}
+use Rattle.std.specs.Prelude.{Option, Some, slice_get, slice_set, get_or}
 use Rattle.std.proofs.Math.Seq.{map-set_same}
 use Rattle.std.specs.Option.{option_map, option_map_or}
 use mathlib.Core.List.{IsPrefix}
 use Rattle.std.proofs.lemmas.List.{length-map}
-use Rattle.std.proofs.lemmas.Option.{slice_get-map, slice_get_within}
+use Rattle.std.proofs.lemmas.Option.{slice_get-map}
 use Rattle.ring_map.specs.Ring.{id_of}
 use Rattle.rw_gate.specs.Views.{GateId}
 use Rattle.vnode_machine.specs.Replay.{IsWithinLimits}
@@ -15,38 +15,12 @@ use Rattle.ghost_state.proofs.Lists.{set-here}
 use Rattle.stats_book.specs.declared.quantity.Quantity.{Quantity}
 use Rattle.stats_book.specs.Counter.{Count, CountsAnswer}
 use Rattle.handoff.specs.declared.gates.Fallback.{Fallback}
-use Rattle.handoff.specs.Partitions.{AreMadeNew, AreOfNewRun, IsFallback}
-use Rattle.handoff.specs.Sights.{IsOfVnode}
-use Rattle.handoff.proofs.Opened.{got, none_some}
+use Rattle.handoff.specs.Partitions.{AreOfNewRun, IsFallback}
+use Rattle.handoff.proofs.Opened.{got, new_at}
 use Rattle.gate_node.specs.declared.passes.FallbackPass.{FallbackPass}
 use Rattle.gate_node.specs.Asked.{Sight, AnswersAndReaps}
 use Rattle.gate_node.specs.GateStep.{NodeOverGates, AtIndex, AtFallback, AtClosed, LooksAtPrimary, events_seen}
 use Rattle.gate_node.specs.Passes.{AnswersAtFallback, FindsClosed}
-
-made_new_at : (run index i : ℕ) (gates : List (GateId View)) (gate : GateId View) → AreMadeNew run index gates → slice_get gates i ≡ Some gate → IsMadeNew (id_of run (index + i)) 0 gate
-made_new_at run index i [] gate all at = absurd (none_some gate at)
-made_new_at run index zero (g ∷ gates) gate all at =
-    let same : g ≡ gate = cc in
-    let here : index ≡ index + 0 = omega arith in
-    subst (λ (x : GateId View). IsMadeNew (id_of run (index + 0)) 0 x) same (subst (λ n. IsMadeNew (id_of run n) 0 g) here all.0)
-made_new_at run index (suc i) (g ∷ gates) gate all at =
-    let next : (index + 1) + i ≡ index + suc i = omega arith in subst (λ n. IsMadeNew (id_of run n) 0 gate) next (made_new_at run (index + 1) i gates gate all.1 at)
-
--- the ids of a run's vnodes
-limits_at : (run size index : ℕ) → run < 2 ^ 32 → size ≤ 1024 → index < size → IsWithinLimits (id_of run index) 0
-limits_at run size index fits few inside = (omega (arith, fits, few, inside), omega arith)
-
--- the gate at an index of a new run
-pub new_at : (run : ℕ) (gates : List (GateId View)) → AreOfNewRun run gates → (index : ℕ) (gate : GateId View) → slice_get gates index ≡ Some gate → IsMadeNew (id_of run index) 0 gate × IsWithinLimits (id_of run index) 0
-new_at run gates new index gate at =
-    let here : 0 + index ≡ index = omega arith in (
-      subst (λ n. IsMadeNew (id_of run n) 0 gate) here (made_new_at run 0 index gates gate new.made_new at),
-      limits_at run (length gates) index new.fits new.few (slice_get_within gates index gate at),
-    )
-
--- so it was made round a vnode
-pub new_vnode_at : (run : ℕ) (gates : List (GateId View)) → AreOfNewRun run gates → (index : ℕ) (gate : GateId View) → slice_get gates index ≡ Some gate → IsOfVnode gate
-new_vnode_at run gates new index gate at = let here = new_at run gates new index gate at in record { id = id_of run index; last_epoch = 0; made_new = here.0; limits = here.1 }
 
 abbrev gate_of : Sight → GateId View
 gate_of pass = pass.gate

@@ -17,7 +17,7 @@ use Rattle.vnode_core.specs.Plans.{View}
 use Rattle.vnode_core.proofs.Entries.{commands_before, commands_begin, commands_of-all_commands}
 use Rattle.handoff.specs.declared.gates.Fallback.{Fallback}
 use Rattle.handoff.specs.Partitions.{AreNone}
-use Rattle.handoff.proofs.Opened.{none_some}
+use Rattle.handoff.proofs.Opened.{none_some, new_at}
 use Rattle.gate_node.specs.Asked.{Sight, state_of}
 use Rattle.gate_node.specs.Gates.{Gates}
 use Rattle.gate_node.specs.GateStep.{NodeOverGates}
@@ -27,7 +27,6 @@ use Rattle.gate_node.specs.Registers.{Commands, VnodeId, HasSeenCommands, IsLega
 use Rattle.gate_node.specs.Tallies.{GateHistory, IsTally, CountsAll}
 use Rattle.gate_node.proofs.Keeping.{step-keeps}
 use Rattle.gate_node.proofs.Legal.{position-is-legal}
-use Rattle.gate_node.proofs.Opened.{new_at}
 use Rattle.gate_node.proofs.Registers.{step_is}
 
 -- nothing stands at an index

@@ -1,14 +1,14 @@
 -- Gates that were made round new vnodes, and fallbacks by their index.
-use Rattle.std.proofs.Common.{◌≡◌, ◌∙◌, ◌+◌, ◌<◌, ℕ, List, [], ◌∷◌, ◌++◌, length, refl, sym, ap, subst, arith}
+use Rattle.std.proofs.Common.{◌≡◌, ◌∙◌, ◌+◌, ◌<◌, ◌≤◌, ◌^◌, ℕ, List, [], ◌∷◌, ◌++◌, length, refl, sym, ap, subst, arith}
 use Rattle.std.specs.Prelude.{Option, Some, None, IfSome, IsSome, MatchOption, slice_get, slice_set, get_or, zero, suc}
-use Rattle.std.proofs.lemmas.Option.{slice_get-get_or}
+use Rattle.std.proofs.lemmas.Option.{slice_get-get_or, slice_get_within}
 use Rattle.ring_map.specs.Ring.{id_of}
 use Rattle.rw_gate.specs.Views.{GateId}
 use Rattle.vnode_machine.specs.Replay.{IsWithinLimits}
 use Rattle.vnode_core.specs.Plans.{View}
 use Rattle.vnode_core.specs.Events.{IsMadeNew}
 use Rattle.handoff.specs.declared.gates.Fallback.{Fallback}
-use Rattle.handoff.specs.Partitions.{HandoffView, AreMadeNew, AreNone, BeginsBehind, IsDiverted, IsFallback, AreFallbacks, fallback_id, number_in, number_of}
+use Rattle.handoff.specs.Partitions.{HandoffView, AreMadeNew, AreNone, AreOfNewRun, BeginsBehind, IsDiverted, IsFallback, AreFallbacks, fallback_id, number_in, number_of}
 use Rattle.handoff.specs.Sights.{Sight, ClosedBehind, IsOfVnode}
 use Rattle.handoff.specs.Started.{IsStartOf}
 pub use Rattle.std.proofs.lemmas.Option.{none-some as none_some}
@@ -118,3 +118,28 @@ got xs i x within is = slice_get-get_or xs i x within ∙ ap (λ y. Some y) (sym
 pub some-of : {A : Type 0} (o : Option A) → IsSome o → (x : A) × (o ≡ Some x)
 some-of None is = cc
 some-of (Some x) is = (x, refl)
+
+made_new_at : (run index i : ℕ) (gates : List (GateId View)) (gate : GateId View) → AreMadeNew run index gates → slice_get gates i ≡ Some gate → IsMadeNew (id_of run (index + i)) 0 gate
+made_new_at run index i [] gate all at = absurd (none_some gate at)
+made_new_at run index zero (g ∷ gates) gate all at =
+    let same : g ≡ gate = cc in
+    let here : index ≡ index + 0 = omega arith in
+    subst (λ (x : GateId View). IsMadeNew (id_of run (index + 0)) 0 x) same (subst (λ n. IsMadeNew (id_of run n) 0 g) here all.0)
+made_new_at run index (suc i) (g ∷ gates) gate all at =
+    let next : (index + 1) + i ≡ index + suc i = omega arith in subst (λ n. IsMadeNew (id_of run n) 0 gate) next (made_new_at run (index + 1) i gates gate all.1 at)
+
+-- the ids of a run's vnodes
+limits_at : (run size index : ℕ) → run < 2 ^ 32 → size ≤ 1024 → index < size → IsWithinLimits (id_of run index) 0
+limits_at run size index fits few inside = (omega (arith, fits, few, inside), omega arith)
+
+-- the gate at an index of a new run
+pub new_at : (run : ℕ) (gates : List (GateId View)) → AreOfNewRun run gates → (index : ℕ) (gate : GateId View) → slice_get gates index ≡ Some gate → IsMadeNew (id_of run index) 0 gate × IsWithinLimits (id_of run index) 0
+new_at run gates new index gate at =
+    let here : 0 + index ≡ index = omega arith in (
+      subst (λ n. IsMadeNew (id_of run n) 0 gate) here (made_new_at run 0 index gates gate new.made_new at),
+      limits_at run (length gates) index new.fits new.few (slice_get_within gates index gate at),
+    )
+
+-- so it was made round a vnode
+pub new_vnode_at : (run : ℕ) (gates : List (GateId View)) → AreOfNewRun run gates → (index : ℕ) (gate : GateId View) → slice_get gates index ≡ Some gate → IsOfVnode gate
+new_vnode_at run gates new index gate at = let here = new_at run gates new index gate at in record { id = id_of run index; last_epoch = 0; made_new = here.0; limits = here.1 }

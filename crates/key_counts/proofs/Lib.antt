@@ -1,4 +1,4 @@
 -- The lemmas of this crate.
-pub mod Counting
+pub mod Lists
 pub mod Sums
 pub mod Walks

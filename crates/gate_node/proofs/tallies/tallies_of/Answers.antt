@@ -4,7 +4,7 @@ use Rattle.std.proofs.lemmas.Option.{slice_get_read}
 use Rattle.std.specs.Prelude.{true, Some, slice_get}
 use Rattle.gate_node.specs.OneHistory.{CallersAreOfGate, ShareHistories}
 use Rattle.gate_node.proofs.Histories.{all_of_gate, no_history, one_more, shared_length}
-use Rattle.gate_node.proofs.Opened.{new_vnode_at}
+use Rattle.handoff.proofs.Opened.{new_vnode_at}
 use Rattle.gate_node.proofs.tallies.tallies_of.Goals as goal
 
 pub loop-gate-init : goal.loop-gate-init

@@ -1,7 +1,7 @@
 use Rattle.std.proofs.Common.{◌+◌, ap, ◌∙◌, length, length-append, ◌∷◌, []}
 use Rattle.std.specs.Prelude.{None}
 use Rattle.handoff_tracks.specs.declared.track.HandoffTrack.TheVariants.{AtPrimary}
-use Rattle.handoff_tracks.proofs.Tracks.{undiverted_push}
+use Rattle.handoff_tracks.proofs.TrackLists.{undiverted_push}
 use Rattle.handoff_tracks.proofs.calls.undiverted.Goals as goal
 
 pub loop-preserved : goal.loop-preserved

@@ -1,6 +1,6 @@
 use Rattle.std.proofs.Common.{◌+◌, ap, sym, subst, ◌∙◌, length, length-append, ◌∷◌, []}
 use Rattle.key_counts.specs.Partitions.{IsCountedAt}
-use Rattle.key_counts.proofs.Counting.{each-push}
+use Rattle.key_counts.proofs.Lists.{each-push}
 use Rattle.key_counts.proofs.partitions.count_partitions.Goals as goal
 
 pub loop-index-preserved : goal.loop-index-preserved

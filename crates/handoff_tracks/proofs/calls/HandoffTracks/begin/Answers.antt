@@ -1,4 +1,4 @@
-use Rattle.handoff_tracks.proofs.Tracks.{have_begun}
+use Rattle.handoff_tracks.proofs.TrackLists.{have_begun}
 use Rattle.handoff_tracks.proofs.calls.HandoffTracks.begin.Goals as goal
 
 pub returns : goal.returns

@@ -1,4 +1,5 @@
-use Rattle.handoff_tracks.proofs.Tracks.{can_copy, have_kept}
+use Rattle.handoff_tracks.proofs.TrackLists.{have_kept}
+use Rattle.handoff_tracks.proofs.Tracks.{can_copy}
 use Rattle.handoff_tracks.proofs.calls.HandoffTracks.copy_back.Goals as goal
 
 pub copied-requires : goal.copied-requires

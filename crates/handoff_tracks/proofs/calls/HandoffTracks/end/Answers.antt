@@ -1,6 +1,7 @@
 use Rattle.std.proofs.Common.{◌≡◌, subst}
 use Rattle.std.specs.Prelude.{Some, slice_get}
-use Rattle.handoff_tracks.proofs.Tracks.{can_end, have_kept, have_taken}
+use Rattle.handoff_tracks.proofs.TrackLists.{have_kept, have_taken}
+use Rattle.handoff_tracks.proofs.Tracks.{can_end}
 use Rattle.handoff_tracks.proofs.calls.HandoffTracks.end.Goals as goal
 
 pub ended-requires : goal.ended-requires

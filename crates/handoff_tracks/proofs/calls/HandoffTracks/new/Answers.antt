@@ -1,5 +1,5 @@
 use Rattle.std.proofs.Common.{◌∙◌, ap, length, sym}
-use Rattle.handoff_tracks.proofs.Tracks.{new_tracks_are}
+use Rattle.handoff_tracks.proofs.TrackLists.{new_tracks_are}
 use Rattle.handoff_tracks.proofs.calls.HandoffTracks.new.Goals as goal
 
 pub returns : goal.returns

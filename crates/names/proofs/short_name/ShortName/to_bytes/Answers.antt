@@ -1,7 +1,7 @@
 use Rattle.std.proofs.Common.{◌≡◌, ◌∙◌, ℕ, List, [], ◌++◌, drop, ap, subst}
 use Rattle.std.specs.Prelude.{IfOk}
 use Rattle.byteorder.specs.Endian.{big_bytes}
-use Rattle.names.proofs.Words.{name_bytes}
+use Rattle.names.proofs.WordBytes.{name_bytes}
 use Rattle.names.proofs.short_name.ShortName.to_bytes.Goals as goal
 
 pub returns : goal.returns
