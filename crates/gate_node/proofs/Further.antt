@@ -99,15 +99,3 @@ module _ (kept left olds others : List Sight) (pass : Sight) (h : AreMerged kept
         saw_mine = (record { of_gate = ap (λ (p : Sight). p.gate) (sym same) ∙ sym gate; begins = subst (λ (p : Sight). IsPrefix p.prefix further.prefix) same mine }, h.saw_mine);
         saw_theirs = (record { of_gate = same_gate now is ∙ sym gate; begins = theirs }, h.saw_theirs);
       }
-
--- behind the last of the others all are so
-pub merged_all : (kept left olds others : List Sight) → left ≡ [] → AreMerged kept left olds others → AllZip HasSeenAllOf kept olds × AllZip HasSeenAllOf kept others
-merged_all kept left olds others none h =
-    let no_front : h.front ≡ [] = nil_image h.front (sym h.gates ∙ ap Gates none) in (
-      subst (λ (l : List Sight). AllZip HasSeenAllOf l olds) (sym (h.kept_is ∙ ap (λ (l : List Sight). l ++ h.ends) no_front)) (subst (λ (l : List Sight). AllZip HasSeenAllOf h.ends l) (sym (h.olds_is ∙ ap (λ (l : List Sight). l ++ h.mine) no_front)) h.saw_mine),
-      subst (λ (l : List Sight). AllZip HasSeenAllOf l others) (sym (h.kept_is ∙ ap (λ (l : List Sight). l ++ h.ends) no_front)) (subst (λ (l : List Sight). AllZip HasSeenAllOf h.ends l) (sym (h.others_is ∙ ap (λ (l : List Sight). l ++ h.theirs) none)) h.saw_theirs),
-    )
-  where
-    nil_image : (passes : List Sight) → Gates passes ≡ [] → passes ≡ []
-    nil_image [] is = refl
-    nil_image (pass ∷ passes) is = absurd (cc is)

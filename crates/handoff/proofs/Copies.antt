@@ -2,7 +2,7 @@
 use Rattle.std.proofs.Common.{◌≡◌, ◌∙◌, ◌+◌, ◌≤◌, ℕ, List, [], ◌∷◌, ◌++◌, length, length-append, refl, sym, ap, subst, arith}
 use Rattle.std.specs.Prelude.{◌⊎◌, Option, Some, None, IfNone, IfOk, IfSome, IsSome, IsTrue, Result, Ok, Err, slice_get}
 use Rattle.std.proofs.lemmas.List.{append-nil}
-use Rattle.std.proofs.lemmas.List.Elements.{All-nil, All-weaker, All-push}
+use Rattle.std.proofs.lemmas.List.Elements.{All-weaker, All-push}
 use mathlib.Core.List.{IsPrefix}
 use mathlib.Core.Logic.{inl, inr}
 use Rattle.riak_msgs.specs.declared.Key.{Key}
@@ -89,10 +89,6 @@ tried-more n mine mine' theirs theirs' copied tried here_gate here gate there al
   counted = all.counted;
   stuck = All-weaker (IsStuckOf n mine theirs) (IsStuckOf n mine' theirs') (λ copy is. stuck-more n mine mine' theirs theirs' copy here_gate here gate there is) all.copies all.stuck;
 }
-
--- none was tried
-pub tried-none : (n : ℕ) (mine theirs : Sight) → WereTried n mine theirs 0 0
-tried-none n mine theirs = record { copies = []; counted = refl; stuck = All-nil (IsStuckOf n mine theirs) }
 
 -- one more was copied
 pub tried-made : (n : ℕ) (mine theirs : Sight) (copied tried : ℕ) → WereTried n mine theirs copied tried → WereTried n mine theirs (copied + 1) (tried + 1)

@@ -11,10 +11,9 @@ use Rattle.vnode_machine.specs.Sound.{IsStoredClock, IsSound}
 use Rattle.vnode_core.specs.Left.{is_copied, keys_behind}
 use Rattle.vnode_core.proofs.Lefts.{behind-next, behind-none, next-fewer, none-more}
 use Rattle.vnode_core.proofs.Walking.{next-found}
-use Rattle.handoff.specs.Left.{AreCopied, FindsLeft, GoesOnInRest, IsFirstLeft, IsHeldAt, IsNextLeft}
-use Rattle.handoff.specs.declared.left.Found.{Found}
+use Rattle.handoff.specs.Left.{AreCopied, FindsLeft, GoesOnInRest, IsFirstLeft, IsNextLeft}
 use Rattle.handoff.specs.declared.left.Left.{Left}
-use Rattle.handoff.specs.declared.left.Found.TheVariants.{End, Passed, Next}
+use Rattle.handoff.specs.declared.left.Found.TheVariants.{Passed, Next}
 
 pub copied-none : (primary : State Content) (keys : Keys) → keys ≡ [] → AreCopied primary keys
 copied-none primary keys is = subst (AreCopied primary) (sym is) refl
@@ -84,9 +83,3 @@ first-found primary fallback after left on found = record {
   first = subst (λ (keys : Keys). IsFirstLeft primary keys (left.key, stored_of left.stored.now)) (sym (behind-none fallback)) (on.left (left.key, stored_of left.stored.now) found.first);
   is_held = found.is_held;
 }
-
--- what a walk found is held
-pub found-held : (primary fallback : State Content) (after : Option Key) (found : Found) → FindsLeft primary fallback after found → IsHeldAt fallback found
-found-held primary fallback after End finds = tt
-found-held primary fallback after (Passed key) finds = tt
-found-held primary fallback after (Next left) finds = finds.is_held

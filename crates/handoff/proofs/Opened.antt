@@ -106,10 +106,6 @@ next-diverted index number last_epoch old new before seen fallback was next begi
   is = is;
 }
 
--- a fallback's gate was made round a vnode
-pub fallback-vnode : (run index : ℕ) (fallback : Fallback) → IsFallback run index fallback → IsOfVnode fallback.gate
-fallback-vnode run index fallback is = record { id = fallback_id run index; last_epoch = is.last_epoch; made_new = is.made_new; limits = is.limits }
-
 -- what a list has at an index within it
 pub got : {A : Type 0} (xs : List A) (i : ℕ) (x : A) → i < length xs → x ≡ get_or xs i x → slice_get xs i ≡ Some x
 got xs i x within is = slice_get-get_or xs i x within ∙ ap (λ y. Some y) (sym is)

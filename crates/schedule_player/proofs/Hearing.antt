@@ -1,5 +1,5 @@
 -- What a line adds to what is heard.
-use Rattle.std.proofs.Common.{◌≡◌, ℕ, ◌+◌, true, false, List, Option, Result, Ok, Err, refl, sym, ap, ◌∙◌, subst}
+use Rattle.std.proofs.Common.{◌≡◌, ℕ, ◌+◌, false, List, Option, Result, Ok, Err, sym, ap, ◌∙◌, subst}
 use Rattle.std.specs.Prelude.{OnOk, option_and_then}
 use Rattle.std.specs.Option.{option_map_or}
 use Rattle.std.specs.Global.{Box}
@@ -52,10 +52,6 @@ pub noted : (step : Step) → is_diversion step ≡ false → (note : Note) → 
 noted (By number action) other note worker call is at asked = λ line returned heard.
     ap (λ n. after_note line n returned heard) is ∙ (λ i. after_act line (at i) (asked i) returned heard)
 noted (Diverts index) other note worker call is at asked = cc
-
-pub diversion_noted : (step : Step) → true ≡ is_diversion step → IsNoteOf notes.OfDiversion step
-diversion_noted (By number action) is = cc
-diversion_noted (Diverts index) is = λ line returned heard. refl
 
 -- a step's line, by what was noted of it
 pub step_answered : (old : Player) (w : World) (new : Player) (step : Step) (note : Note) (outcome : Returned)

@@ -1,6 +1,6 @@
 -- What a teller keeps is of one session more.
-use Rattle.std.proofs.Common.{arith, ◌≡◌, ◌∙◌, ◌+◌, ℕ, Bool, true, false, List, [], ◌∷◌, ◌++◌, length, map, refl, sym, ap, subst}
-use Rattle.std.proofs.lemmas.List.{append-nil, length-append}
+use Rattle.std.proofs.Common.{◌≡◌, ◌∙◌, ◌+◌, ℕ, Bool, true, false, List, [], ◌∷◌, ◌++◌, map, refl, sym, ap, subst}
+use Rattle.std.proofs.lemmas.List.{append-nil}
 use Rattle.std.specs.Prelude.{◌||◌}
 use Rattle.std.specs.List.{AllZip}
 use Rattle.rw_gate.proofs.Prefixes.{prefix_trans}
@@ -17,7 +17,7 @@ use Rattle.session_pool.specs.declared.host.LeftSession.{LeftSession}
 use Rattle.session_pool.specs.declared.left.Left.{Left}
 use Rattle.session_pool.specs.declared.left.Left.TheVariants.{Ended, Rests}
 use Rattle.session_pool.specs.Suspending.{SuspendedView}
-use Rattle.session_pool.specs.Tellers.{TellerView, TellerStands, HaveSeenLeft, HaveSeenOne, HasRoom, ends_in, ends_more, resting_in, rests_more, is_full}
+use Rattle.session_pool.specs.Tellers.{TellerView, TellerStands, HaveSeenLeft, HaveSeenOne, ends_in, ends_more, resting_in, rests_more, is_full}
 
 -- one element more, behind the others
 pub every_more : {A : Type 0} (P : A → Type 0) (xs : List A) (x : A) → Every P xs → P x → Every P (xs ++ x ∷ [])
@@ -107,13 +107,3 @@ module _ {R W : Type 0} where
       seen = subst (Every (HaveSeenOne new.seen)) (sym told_is) (every_more (HaveSeenOne new.seen) old.told one (all_through new.seen old.seen old.told mine h.seen) theirs);
       full = full ∙ ap (λ b. b || one.end.book_full) h.full ∙ sym (full_more old.told one) ∙ ap is_full (sym told_is);
     }
-
-  -- room for one session less, where none or one more rests
-  pub room_less : {K : Type 0} (has_room : K → ℕ → Type 0) (old new : TellerView R W K) (left : Left R W) (n : ℕ) → HasRoom has_room old (n + 1) → (has_room old.sink (n + 1) → has_room new.sink n) → new.places ≡ old.places
-      → new.resting ≡ old.resting ++ rests_more left [] → HasRoom has_room new n
-  room_less has_room old new (Ended ended) n room on places rests =
-      let sizes : length new.resting ≡ length old.resting + 0 = ap length rests ∙ length-append old.resting [] in
-      (on room.0, omega (arith, sizes, places, room.1))
-  room_less has_room old new (Rests session) n room on places rests =
-      let sizes : length new.resting ≡ length old.resting + 1 = ap length rests ∙ length-append old.resting (session ∷ []) in
-      (on room.0, omega (arith, sizes, places, room.1))

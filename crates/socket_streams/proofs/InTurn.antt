@@ -1,7 +1,7 @@
 -- Lists of lists, from the last one of the last list on.
 use Rattle.std.proofs.Common.{◌≡◌, ◌∙◌, List, [], ◌∷◌, ◌++◌, map, length, Vec, Global, ap, sym, subst, arith}
 use Rattle.std.specs.Prelude.{reverse}
-use Rattle.std.proofs.lemmas.List.{append-nil, append_assoc, drop_all, map-append, reverse-append, reverse-reverse}
+use Rattle.std.proofs.lemmas.List.{append-nil, append_assoc, drop_all, map-append, reverse-append}
 use Rattle.job_pool.specs.Lists.{Every, concat}
 use Rattle.job_pool.proofs.Lists.{all_snoc}
 use Rattle.socket_streams.specs.Sessions.{in_turn}
@@ -30,10 +30,6 @@ module _ {A : Type 0} where
   -- what each of these lists has, each has in turn
   pub all_in_turn : (P : A → Type 0) (lists : List (List A)) → Every P (concat lists) → Every P (in_turn lists)
   all_in_turn P lists h = all_reverse P (concat lists) h
-
-  -- and the other way round
-  pub all_of_turn : (P : A → Type 0) (lists : List (List A)) → Every P (in_turn lists) → Every P (concat lists)
-  all_of_turn P lists h = subst (Every P) (reverse-reverse (concat lists)) (all_reverse P (in_turn lists) h)
 
   abbrev items_of : List (Vec A Global) → List (List A)
   items_of lists = map (λ xs. xs.items) lists

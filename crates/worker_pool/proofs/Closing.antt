@@ -1,26 +1,24 @@
 -- How a session begins, and what its end says once it is over.
-use Rattle.std.proofs.Common.{◌≡◌, ◌≤◌, ◌∙◌, ℕ, List, [], false, refl, sym, ap, subst}
+use Rattle.std.proofs.Common.{◌≡◌, ◌∙◌, ℕ, List, [], refl, sym, ap, subst}
 use Rattle.std.proofs.KnownBytes.{Consumes-kept, Consumes-all}
 use Rattle.std.specs.Prelude.{Option, Result, Ok, Err, MatchResult}
 use Rattle.std.specs.Io.KnownBytes.{Keeps}
 use Rattle.node_session.specs.declared.ended.Ended.{Ended}
 use Rattle.node_session.specs.declared.fault.SessionFault.{SessionFault}
 use Rattle.node_session.specs.Session.{IsInputEnd}
-use Rattle.node_session.specs.Views.{new_session}
 use Rattle.node_session.proofs.Standing.{answered_kept}
 use Rattle.node_session.specs.Courses.{Came, IsOverBy}
 use Rattle.node_session.specs.declared.stage.Stage.{Stage}
 use Rattle.node_session.specs.declared.stage.Stage.TheVariants.{Answering, Sending, Telling, Flushing, Reading, Closing, Over}
 use Rattle.node_session.specs.declared.talk.Talk.{Talk}
-use Rattle.node_session.proofs.Coming.{begins, closing_stays}
-use Rattle.worker_pool.specs.Sitting.{SittingView, IsOutcomeOf}
-use Rattle.stats_book.specs.Counting.{zeros}
+use Rattle.node_session.proofs.Coming.{closing_stays}
+use Rattle.worker_pool.specs.Sitting.{IsOutcomeOf}
 use Rattle.gate_node.specs.Gates.{Gates}
 use Rattle.gate_node.specs.GateStep.{NodeOverGates, GateNodeStep}
 use Rattle.gate_node.proofs.Keeping.{run-keeps}
 use Rattle.worker_pool.specs.declared.job.Job.{Job}
 use Rattle.worker_pool.specs.declared.job.End.{End}
-use Rattle.worker_pool.specs.Serving.{EndsAtEnd, EndsAtFault, StandsOver}
+use Rattle.worker_pool.specs.Serving.{EndsAtEnd, EndsAtFault}
 use Rattle.worker_pool.proofs.Keeping.{stops_keep}
 
 -- a session that is over kept the gates of its node
@@ -40,19 +38,6 @@ came_over first last u u' h h' (Closing fault) talk result is p = absurd is
 came_over first last u u' h h' (Over outcome) talk result is p = subst (IsOverBy GateNodeStep first last u u' h h' talk.most) (sym is) p
 
 module _ {I O : Type 0} (remaining : I → Option (List ℕ)) (contents : O → Option (List ℕ)) (shared : Gates) where
-  -- a session that has read nothing
-  pub stands_first : (job : Job I O) (node : NodeOverGates) (most : ℕ) (sitting : SittingView NodeOverGates I O) → most ≡ shared.reads → most ≤ 4294967296 → node.shared ≡ shared → node.passes ≡ job.passes → node.count ≡ record { counted = zeros; book_full = false }
-      → sitting ≡ record { node = node; stage = Answering; talk = record { session = new_session; replies = 0; made = 0; most = most }; reader = job.reader; writer = job.writer }
-      → StandsOver remaining contents shared job sitting
-  stands_first job node most sitting reads few gates passes count is = subst (StandsOver remaining contents shared job) (sym is) (record {
-    first = node;
-    gates = gates;
-    by_passes = passes;
-    unused = count;
-    reads = reads;
-    came = begins GateNodeStep node (remaining job.reader) (contents job.writer) most few;
-  })
-
   -- what is promised of a result stays, where the streams keep what they have
   pub over_ends : (job : Job I O) (end : End I O) (first last : NodeOverGates) (u' h' : Option (List ℕ)) → Keeps u' (remaining end.reader) → Keeps h' (contents end.writer) → (result : Result Ended SessionFault)
       → IsOverBy GateNodeStep first last (remaining job.reader) u' (contents job.writer) h' shared.reads result
