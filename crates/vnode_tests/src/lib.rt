@@ -1,5 +1,5 @@
-//! Tests of `actor_epoch`, `dvv_set`, `clock_store`, `sibling_register`, `vnode_core` and `tomb_reaper`, from outside: contexts, epochs, clocks, what keeps
-//! the clocks of keys, the register, a vnode, and its reaps.
+//! Tests of `actor_epoch`, `dvv_set`, `clock_store`, `sibling_register`, `vnode_core`, `tomb_reaper`, `ghost_state` and `rw_gate`, from outside: contexts,
+//! epochs, clocks, what keeps the clocks of keys, the register, a vnode, its reaps, and a counter, a register and a vnode behind a gate.
 //!
 //! They stand in a crate of their own, since a crate with tests is proved twice.
 #![tactic(auto)]
@@ -12,6 +12,10 @@ mod clocks;
 mod epochs;
 #[cfg(test)]
 mod exchanges;
+#[cfg(test)]
+mod gates;
+#[cfg(test)]
+mod ghosts;
 #[cfg(test)]
 mod places;
 #[cfg(test)]

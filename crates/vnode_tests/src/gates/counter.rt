@@ -1,9 +1,9 @@
 //! A counter behind a gate: adds by several callers, the mark that keeps readers out, and four threads.
-use crate::tests::attempts::Attempt::{Mark, Read, Unmark, Write};
-use crate::tests::steps::Act::{Ask, Beside, Look};
-use crate::tests::steps::Who::{Ann, Bob};
-use crate::tests::steps::{Outcome, Request, Step, Turn, View, plays};
-use crate::tests::threads::{Work, cross_threads, is_end, makes_rounds, name_of};
+use crate::gates::attempts::Attempt::{Mark, Read, Unmark, Write};
+use crate::gates::steps::Act::{Ask, Beside, Look};
+use crate::gates::steps::Who::{Ann, Bob};
+use crate::gates::steps::{Outcome, Request, Step, Turn, View, plays};
+use crate::gates::threads::{Work, cross_threads, is_end, makes_rounds, name_of};
 use rw_gate::Gate;
 use rw_gate::counter::{GatedCounter, TooMuch};
 use std::alloc::Global;

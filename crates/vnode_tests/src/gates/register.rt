@@ -2,10 +2,10 @@
 ghost use Rattle.std.specs.Prelude.{◌≡◌, IsTrue, IfNone, false};
 ghost use Rattle.sibling_register.specs.Plain.{IsPosition, GivesPositions};
 
-use crate::tests::steps::Act::Ask;
-use crate::tests::steps::Step::{LookAnew, Seen, Write};
-use crate::tests::steps::Who::Ann;
-use crate::tests::steps::{Outcome, Request, Step, Turn, View, plays};
+use crate::gates::steps::Act::Ask;
+use crate::gates::steps::Step::{LookAnew, Seen, Write};
+use crate::gates::steps::Who::Ann;
+use crate::gates::steps::{Outcome, Request, Step, Turn, View, plays};
 use ghost_state::GhostValue;
 use riak_msgs::Key;
 use rw_gate::{Kept, Plan};
@@ -93,7 +93,7 @@ impl Kept for Register {
     ghost use Rattle.std.specs.Prelude.{◌≡◌, ℕ, true, List, Some};
     ghost use Rattle.sibling_register.specs.History.{Event};
     ghost use Rattle.sibling_register.specs.Plain.{Gives, answer_of};
-    ghost use Rattle.gate_tests.specs.Registers.{applied, RegisterMakes};
+    ghost use Rattle.vnode_tests.specs.Registers.{applied, RegisterMakes};
 
     ghost State = { List (Event ℕ ℕ) };
 

@@ -2,7 +2,7 @@
 ghost use Rattle.std.specs.Prelude.{◌≡◌};
 ghost use Rattle.rw_gate.specs.Plans.{IfChange};
 
-use crate::tests::attempts::{Attempt, are_so_beside_reader, succeeds};
+use crate::gates::attempts::{Attempt, are_so_beside_reader, succeeds};
 use rw_gate::{Gate, Kept, Pass, Plan, ReadRight, WriteRight};
 use std::alloc::Global;
 

@@ -1,7 +1,7 @@
 //! Four threads at one gate: each does the same in rounds.
 ghost use Rattle.std.specs.Prelude.{◌≡◌};
 
-use crate::tests::steps::{Act, Outcome, Request, Turn, View, is_shown_anew, writes};
+use crate::gates::steps::{Act, Outcome, Request, Turn, View, is_shown_anew, writes};
 use rw_gate::{Gate, Kept, Pass};
 use std::alloc::Global;
 use std::sync::Wait;

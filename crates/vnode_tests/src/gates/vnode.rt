@@ -1,9 +1,9 @@
 //! A vnode behind a gate: what was written is read back, and keys die, by one thread and by four.
-use crate::tests::steps::Act::{Ask as Asks, Look};
-use crate::tests::steps::Step::{LookAnew, Seen, Write};
-use crate::tests::steps::Who::Ann;
-use crate::tests::steps::{Outcome, Request, Step, Turn, View, plays};
-use crate::tests::threads::{Work, is_end, makes_rounds, name_of};
+use crate::gates::steps::Act::{Ask as Asks, Look};
+use crate::gates::steps::Step::{LookAnew, Seen, Write};
+use crate::gates::steps::Who::Ann;
+use crate::gates::steps::{Outcome, Request, Step, Turn, View, plays};
+use crate::gates::threads::{Work, is_end, makes_rounds, name_of};
 use riak_msgs::{Bytes, DelAsk, GetAsk, GetReply, Key, PutAsk};
 use rw_gate::Gate;
 use std::alloc::Global;

@@ -1,5 +1,5 @@
 use Rattle.std.proofs.Common.{◌≡◌}
-use Rattle.gate_tests.proofs.tests.steps.are_taken.Given as goal
+use Rattle.vnode_tests.proofs.gates.steps.are_taken.Given as goal
 
 -- the passes stay the gate's
 abbrev pub invariant-loop-step : goal.invariant-loop-step

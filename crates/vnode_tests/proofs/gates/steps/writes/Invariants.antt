@@ -1,5 +1,5 @@
 use Rattle.std.proofs.Common.{◌≡◌}
-use Rattle.gate_tests.proofs.tests.steps.writes.Given as goal
+use Rattle.vnode_tests.proofs.gates.steps.writes.Given as goal
 
 -- the pass and the right stay the gate's
 abbrev pub invariant-loop-act : goal.invariant-loop-act

@@ -1,5 +1,5 @@
 use Rattle.std.proofs.Common.{◌≡◌}
-use Rattle.gate_tests.proofs.tests.threads.makes_round.Given as goal
+use Rattle.vnode_tests.proofs.gates.threads.makes_round.Given as goal
 
 -- the pass stays one of the gate's
 abbrev pub invariant-loop-all : goal.invariant-loop-all

@@ -1,8 +1,8 @@
 use Rattle.std.proofs.Common.{◌≡◌, refl, ap, sym, ◌∙◌}
 use Rattle.sibling_register.specs.Plain.{answer_of}
-use Rattle.gate_tests.specs.Registers.{before_newest}
-use Rattle.gate_tests.proofs.Registers.{given_longer}
-use Rattle.gate_tests.proofs.tests.register.RegisterKept.prepare.Goals as goal
+use Rattle.vnode_tests.specs.Registers.{before_newest}
+use Rattle.vnode_tests.proofs.Registers.{given_longer}
+use Rattle.vnode_tests.proofs.gates.register.RegisterKept.prepare.Goals as goal
 
 pub returns-clause-change : goal.returns-clause-change
 returns-clause-change c =
