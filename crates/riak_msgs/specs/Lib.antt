@@ -1,6 +1,7 @@
 pub mod BucketTypes
 pub mod KeyOrder
 pub mod Content
+pub mod BareContents
 pub mod Contents
 pub mod Text
 pub mod ContentEncoding

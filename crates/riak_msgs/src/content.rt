@@ -154,19 +154,6 @@ impl Content {
         out.append_encoded(self.encoded_details()?)?;
         Ok(())
     }
-
-    /// A copy with an empty value: the value's bytes are neither copied nor given room.
-    pub fn clone_head(&self, alloc: Global) -> Result<Content, AllocError>
-        ensures { IfOk result (λ copy. copy ≡ bare self.now) }
-    {
-        let details = self.encoded_details()?;
-        let mut bytes = Vec::with_capacity(alloc, details.len().saturating_add(EMPTY_VALUE.len()))?;
-        bytes.append_encoded(EMPTY_VALUE)?;
-        bytes.append_encoded(details)?;
-        Ok(Content {
-            encoding: ArcSlice::from_vec(bytes)?,
-        })
-    }
 }
 
 impl Message for Content {

@@ -2,7 +2,7 @@
 
 ghost use Rattle.riak_msgs.specs.Requests.{del_body};
 
-use crate::bytes::Bytes;
+use crate::context_bytes::ContextBytes;
 use crate::encode::{encode_context, encode_type};
 use crate::key::Key;
 use pb_fields::{Message, Output};
@@ -15,7 +15,7 @@ use std::alloc::AllocError;
 pub struct DelAsk {
     pub key: Key,
     /// What the deleter has seen. No bytes are no context: it sees all that is stored.
-    pub context: Bytes,
+    pub context: ContextBytes,
 }
 
 impl Message for DelAsk {

@@ -7,7 +7,7 @@ ghost use Rattle.riak_msgs.specs.Encoding.{context_field};
 ghost use Rattle.riak_msgs.specs.Requests.{type_field};
 
 use crate::bucket_type::{BucketType, DEFAULT_TYPE};
-use crate::bytes::Bytes;
+use crate::context_bytes::ContextBytes;
 use crate::fault::MsgFault;
 use pb_fields::{Message, Output, encoded_len};
 use std::alloc::{AllocError, Global};
@@ -34,7 +34,7 @@ pub(crate) fn encode_optional<O: Output>(
 pub(crate) fn encode_context<O: Output>(
     out: &mut O,
     number: u32,
-    context: &Bytes,
+    context: &ContextBytes,
 ) -> Result<(), AllocError>
     requires { IsNumber number }
     ensures { OnOk result (O.appends out.old (context_field number context.now) out.new) }

@@ -4,7 +4,7 @@ ghost use Rattle.std.specs.Prelude.{◌≡◌, IfOk};
 ghost use Rattle.riak_msgs.specs.Replies.{get_reply_body};
 ghost use Rattle.riak_msgs.specs.Requests.{get_body, plain_get};
 
-use crate::bytes::Bytes;
+use crate::context_bytes::ContextBytes;
 use crate::encode::{encode_context, encode_type};
 use crate::key::Key;
 use crate::sequence::Sequence;
@@ -19,7 +19,7 @@ use std::alloc::{AllocError, Global};
 pub struct GetAsk {
     pub key: Key,
     /// A context: a stored clock of the same entries is answered by `unchanged`. No bytes are no context.
-    pub if_modified: Bytes,
+    pub if_modified: ContextBytes,
     /// Values are shown empty.
     pub head: bool,
     /// The context of a dead key is shown.
@@ -33,7 +33,7 @@ impl GetAsk {
     {
         Ok(GetAsk {
             key: Key::of_default_type(alloc, bucket, key)?,
-            if_modified: Bytes::new(alloc),
+            if_modified: ContextBytes::new(alloc),
             head: false,
             deletedvclock: false,
         })
@@ -59,7 +59,7 @@ impl Message for GetAsk {
 pub struct GetReply {
     pub contents: Sequence<Shown>,
     /// No bytes are no context.
-    pub context: Bytes,
+    pub context: ContextBytes,
     pub unchanged: bool,
 }
 

@@ -4,8 +4,8 @@ ghost use Rattle.std.specs.Prelude.{◌≡◌, IfOk, OnOk};
 ghost use Rattle.riak_msgs.specs.Replies.{put_reply_body};
 ghost use Rattle.riak_msgs.specs.Requests.{plain_put, put_body, put_options};
 
-use crate::bytes::Bytes;
 use crate::content::Content;
+use crate::context_bytes::ContextBytes;
 use crate::encode::{encode_context, encode_type};
 use crate::key::Key;
 use crate::sequence::Sequence;
@@ -20,7 +20,7 @@ use std::alloc::{AllocError, Global};
 pub struct PutAsk {
     pub key: Key,
     /// What the writer has seen. No bytes are no context.
-    pub context: Bytes,
+    pub context: ContextBytes,
     pub content: Content,
     /// The siblings after the put are shown.
     pub return_body: bool,
@@ -46,7 +46,7 @@ impl PutAsk {
     {
         Ok(PutAsk {
             key: Key::of_default_type(alloc, bucket, key)?,
-            context: Bytes::from_slice(alloc, context)?,
+            context: ContextBytes::from_slice(alloc, context)?,
             content: Content::of_value(alloc, value)?,
             return_body: false,
             return_head: false,
@@ -85,7 +85,7 @@ impl Message for PutAsk {
 pub struct PutReply {
     pub contents: Sequence<Shown>,
     /// No bytes are no context.
-    pub context: Bytes,
+    pub context: ContextBytes,
 }
 
 impl Message for PutReply {

@@ -7,7 +7,7 @@ ghost use Rattle.pb_fields.specs.Message.{Encodes};
 ghost use Rattle.riak_msgs.specs.Reading.{Reads, del_of};
 ghost use Rattle.riak_msgs.specs.SeenRequests.{IsSeenDelOf};
 
-use crate::bytes::Bytes;
+use crate::context_bytes::ContextBytes;
 use crate::del::DelAsk;
 use crate::fault::MsgFault;
 use crate::field_access::keep_last;
@@ -68,7 +68,7 @@ impl<'a> DelView<'a> {
     {
         Ok(DelAsk {
             key: self.names.key(alloc)?,
-            context: Bytes::from_slice(alloc, self.context.unwrap_or(&[]))?,
+            context: ContextBytes::given(alloc, self.context)?,
         })
     }
 }

@@ -7,7 +7,7 @@ ghost use Rattle.pb_fields.specs.Message.{Encodes};
 ghost use Rattle.riak_msgs.specs.Reading.{Reads, get_of};
 ghost use Rattle.riak_msgs.specs.SeenRequests.{IsSeenGetOf};
 
-use crate::bytes::Bytes;
+use crate::context_bytes::ContextBytes;
 use crate::fault::MsgFault;
 use crate::field_access::{keep_flag, keep_last};
 use crate::get::GetAsk;
@@ -78,7 +78,7 @@ impl<'a> GetView<'a> {
     {
         Ok(GetAsk {
             key: self.names.key(alloc)?,
-            if_modified: Bytes::from_slice(alloc, self.if_modified.unwrap_or(&[]))?,
+            if_modified: ContextBytes::given(alloc, self.if_modified)?,
             head: self.head,
             deletedvclock: self.deletedvclock,
         })

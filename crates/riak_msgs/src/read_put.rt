@@ -9,9 +9,9 @@ ghost use Rattle.riak_msgs.specs.Parts.{parts_in, parts_message};
 ghost use Rattle.riak_msgs.specs.SeenRequests.{AppendsOccurrence, AreFlagsOf, HasBadContent, HasSeenPut, IsSeenPutOf};
 ghost use Rattle.riak_msgs.specs.SeenRequests.{RefusesOccurrence, no_put};
 
-use crate::bytes::Bytes;
 use crate::content::Content;
 use crate::content_view::ContentView;
+use crate::context_bytes::ContextBytes;
 use crate::fault::MsgFault;
 use crate::field_access::{bytes_at, keep_flag, keep_last};
 use crate::key_view::KeyView;
@@ -142,7 +142,7 @@ impl<'a> PutView<'a> {
     {
         Ok(PutAsk {
             key: self.names.key(alloc)?,
-            context: Bytes::from_slice(alloc, self.context.unwrap_or(&[]))?,
+            context: ContextBytes::from_slice(alloc, self.context.unwrap_or(&[]))?,
             content: self.content(alloc, body)?,
             return_body: self.flags.return_body,
             return_head: self.flags.return_head,

@@ -8,8 +8,8 @@ ghost use Rattle.riak_msgs.specs.ReadingReplies.{ReadsReply};
 ghost use Rattle.riak_msgs.specs.SeenReplies.{DecodesError, ReadsShown, HasSeenReply, IsSeenError, MergesContent, RefusesContent};
 ghost use Rattle.riak_msgs.specs.SeenReplies.{whole_of};
 
-use crate::bytes::Bytes;
 use crate::content_view::ContentView;
+use crate::context_bytes::ContextBytes;
 use crate::fault::MsgFault;
 use crate::field_access::{bytes_at, keep_flag, varint_at};
 use crate::get::GetReply;
@@ -17,6 +17,7 @@ use crate::put::PutReply;
 use crate::reply::Reply;
 use crate::sequence::Sequence;
 use crate::shown::Shown;
+use crate::shown_content::ShownContent;
 use crate::text::text_named;
 use pb_fields::{Field, FieldFault, Merge, scan};
 use std::alloc::Global;
@@ -156,7 +157,7 @@ fn push_content<'a>(
 {
     let content = view.whole(alloc, bytes)?.content(alloc)?;
     contents.push(Shown {
-        content,
+        content: ShownContent::new(content, false),
         deleted: view.deleted,
     })?;
     Ok(())
@@ -181,7 +182,7 @@ fn read_shown(alloc: Global, body: &[u8]) -> Result<GetReply, MsgFault>
     if view.lacks_memory {
         return Err(MsgFault::NoMemory);
     }
-    let context = Bytes::from_slice(alloc, view.context.unwrap_or(&[]))?;
+    let context = ContextBytes::from_slice(alloc, view.context.unwrap_or(&[]))?;
     Ok(GetReply {
         contents: view.contents,
         context,

@@ -5,12 +5,13 @@ ghost use Rattle.std.specs.Prelude.{◌≡◌, ◌++◌, false, Some, IfOk, OnOk
 ghost use Rattle.riak_msgs.specs.Contents.{shown, tombstone};
 
 use crate::content::Content;
+use crate::shown_content::{ShownContent, encode_content};
 use pb_fields::{Message, Output};
-use std::alloc::{AllocError, Global};
+use std::alloc::AllocError;
 
 /// A sibling as a reply shows it. Of a tombstone the content is empty and `deleted` true.
 pub struct Shown {
-    pub content: Content,
+    pub content: ShownContent,
     pub deleted: bool,
 }
 
@@ -25,28 +26,24 @@ impl Drop for Shown {
 }
 
 impl Shown {
-    /// A tombstone, as a reply shows it.
-    pub fn tombstone(alloc: Global) -> Result<Shown, AllocError>
-        ensures { IfOk result (λ shown. shown ≡ tombstone) }
+    /// A tombstone, as a reply shows it. It takes no memory.
+    pub fn tombstone() -> Shown
+        ensures { result ≡ tombstone }
     {
-        Ok(Shown {
-            content: Content::of_value(alloc, &[])?,
+        Shown {
+            content: ShownContent::empty(),
             deleted: true,
-        })
+        }
     }
 
-    /// A content, as a reply shows it, without its value where it is to be bare.
+    /// A content, as a reply shows it, without its value where it is to be bare: one more owner of its bytes. It takes no memory, and is refused
+    /// only where there are 2 to the 63 of them.
     #[inline(always)]
-    pub fn of_content(alloc: Global, content: &Content, is_bare: bool) -> Result<Shown, AllocError>
+    pub fn of_content(content: &Content, is_bare: bool) -> Result<Shown, AllocError>
         ensures { IfOk result (λ s. s ≡ shown is_bare (Some content.now)) }
     {
-        let content = if is_bare {
-            content.clone_head(alloc)?
-        } else {
-            content.clone()?
-        };
         Ok(Shown {
-            content,
+            content: ShownContent::new(content.clone()?, is_bare),
             deleted: false,
         })
     }
@@ -79,11 +76,7 @@ fn encode_shown<O: Output>(out: &mut O, content: &Content, is_bare: bool) -> Res
     ensures { OnOk result
         (O.appends out.old (shown_message (shown is_bare (Some content.now))) out.new) }
 {
-    if is_bare {
-        content.encode_head(out)?;
-    } else {
-        content.encode(out)?;
-    }
+    encode_content(out, content, is_bare)?;
     out.encode_bool(11, false)
 }
 

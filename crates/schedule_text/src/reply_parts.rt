@@ -10,12 +10,12 @@ ghost use Rattle.schedule_text.specs.PlainAnswers.{are_due, is_due, plain_refusa
 ghost use Rattle.schedule_text.specs.Compared.{AreOf, context_in, is_asked};
 
 use pb_fields::encode_repeated;
-use riak_msgs::{Bytes, Content, Key, Reply, Request, Shown, Text};
+use riak_msgs::{Content, ContextBytes, Key, Reply, Request, Shown, Text};
 use sibling_register::{MATCH_FOUND, MODIFIED, NOT_FOUND, PlainRegister, TOO_MANY_SIBLINGS, Told};
 use std::alloc::{AllocError, Global};
 
 /// The key of a request, and the context that it gives: of a get that is `if_modified`. A ping has none.
-pub(crate) fn key_and_context(request: &Request) -> Option<(&Key, &Bytes)>
+pub(crate) fn key_and_context(request: &Request) -> Option<(&Key, &ContextBytes)>
     ensures some { IfSome result (λ given. AreOf request.now given.0.now given.1.now) }
     ensures none { IfNone result (request_ask request.now ≡ None) }
 {
@@ -65,7 +65,6 @@ pub(crate) fn context_shown(reply: &Reply) -> &[u8]
 /// A sibling of the key as a reply shows it: a tombstone where the number has no value.
 fn sibling_shown(
     register: &PlainRegister<Content>,
-    alloc: Global,
     key: &Key,
     is_bare: bool,
     number: u64,
@@ -73,8 +72,8 @@ fn sibling_shown(
     ensures { IfOk result (λ shown. shown ≡ sibling_shown register.now key.now is_bare number) }
 {
     match register.value(key, number) {
-        None => Shown::tombstone(alloc),
-        Some(content) => Shown::of_content(alloc, content, is_bare),
+        None => Ok(Shown::tombstone()),
+        Some(content) => Shown::of_content(content, is_bare),
     }
 }
 
@@ -91,7 +90,7 @@ fn siblings_shown(
 {
     let mut shown = Vec::with_capacity(alloc, numbers.len())?;
     for number in numbers {
-        let sibling = sibling_shown(register, alloc, key, is_bare, *number)?;
+        let sibling = sibling_shown(register, key, is_bare, *number)?;
         shown.push(sibling)?;
     }
     Ok(shown)

@@ -1,5 +1,5 @@
 -- What a vnode answers, by what is stored of the key.
-use Rattle.std.specs.Prelude.{◌≡◌, Bool, true, false, not, ◌||◌, if◌then◌else◌, ℕ, List, [], map, is_some, unwrap_or, Option, Some, None, IsTrue}
+use Rattle.std.specs.Prelude.{◌≡◌, Bool, true, false, not, ◌||◌, if◌then◌else◌, ℕ, List, [], ◌∷◌, map, is_some, unwrap_or, Option, Some, None, IsTrue}
 use Rattle.std.specs.Option.{option_map_or}
 use Rattle.std.specs.Borrow.{Bor}
 use Rattle.std.specs.List.{list_any}
@@ -63,6 +63,10 @@ abbrev pub clock_after : Option (Stored Content) → Option (List Dot) → Actor
     → DotState (Option Content)
 clock_after found seen actor content =
     event actor (Some content) (without seen (clock_found found))
+
+-- a clock that knows one dot, at which a content is live
+abbrev pub sole : Dot → Content → DotState (Option Content)
+sole dot content = record { known = dot ∷ []; live = (dot, Some content) ∷ [] }
 
 -- references to the siblings of a clock, and to all of them
 abbrev pub RefersTo : DotState (Option (Bor (Option Content))) → DotState (Option Content) → Type 0

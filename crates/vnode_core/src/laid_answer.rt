@@ -5,7 +5,7 @@ ghost use Rattle.vnode_core.specs.declared.ask.Answer.TheVariants as answers;
 ghost use Rattle.vnode_core.specs.Replies.{nothing_after};
 
 use crate::ask::Answer;
-use riak_msgs::{Bytes, PutReply, Sequence};
+use riak_msgs::{ContextBytes, PutReply, Sequence};
 use std::alloc::{AllocError, Global};
 use std::marker::Model;
 
@@ -35,7 +35,7 @@ fn nothing_shown(alloc: Global) -> PutReply
 {
     PutReply {
         contents: Sequence::new(alloc),
-        context: Bytes::new(alloc),
+        context: ContextBytes::new(alloc),
     }
 }
 

@@ -1,20 +1,22 @@
 //! What a vnode answers.
 
-ghost use Rattle.std.specs.Prelude.{◌≡◌, ◌||◌, [], ◌∷◌, Some, IfOk, IfSome, IsTrue, map};
+ghost use Rattle.std.specs.Prelude.{◌≡◌, ◌||◌, [], ◌∷◌, None, Some, IfOk, IfSome, IsTrue, map};
 ghost use Rattle.vnode_core.specs.Checks.{found_in};
 ghost use Rattle.actor_epoch.specs.Contexts.{encoding, is_well_formed};
-ghost use Rattle.actor_epoch.specs.Entries.{entries_of};
+ghost use Rattle.dvv_set.specs.Clocks.{discard, event};
+ghost use Rattle.dvv_set.specs.Laws.{IsClock};
+ghost use Rattle.actor_epoch.specs.Entries.{entries_of, entry_of};
 ghost use Rattle.actor_epoch.specs.Given.{context_of};
 ghost use Rattle.dvv_set.specs.Held.{IsWithin, pairs_of as seen_in};
-ghost use Rattle.riak_msgs.specs.Contents.{shown};
-ghost use Rattle.vnode_core.specs.Replies.{nothing, nothing_after, is_its, all_shown, siblings_of, reply_after, filled, clock_after, clock_found, RefersTo, Previews, FitsPut};
+ghost use Rattle.riak_msgs.specs.Contents.{Content, shown};
+ghost use Rattle.vnode_core.specs.Replies.{nothing, nothing_after, is_its, all_shown, siblings_of, reply_after, filled, clock_after, clock_found, RefersTo, Previews, FitsPut, sole};
 ghost use Rattle.clock_store.specs.Keys.{stored_of};
 
 use crate::checks::MAX_SIBLINGS;
 use actor_epoch::{Actor, Context, Counter};
 use clock_store::StoredClock;
 use dvv_set::Clock;
-use riak_msgs::{Bytes, Content, GetAsk, GetReply, PutAsk, PutReply, Sequence, Shown};
+use riak_msgs::{Content, ContextBytes, GetAsk, GetReply, PutAsk, PutReply, Sequence, Shown};
 use std::alloc::{AllocError, Global};
 use std::default::MadeWith;
 
@@ -24,18 +26,18 @@ pub(crate) fn absent_reply(alloc: Global) -> GetReply
 {
     GetReply {
         contents: Sequence::new(alloc),
-        context: Bytes::new(alloc),
+        context: ContextBytes::new(alloc),
         unchanged: false,
     }
 }
 
 /// A copy of a sibling as a reply shows it, without its value where it is to be bare.
-fn show(alloc: Global, sibling: &Option<Content>, is_bare: bool) -> Result<Shown, AllocError>
+fn show(sibling: &Option<Content>, is_bare: bool) -> Result<Shown, AllocError>
     ensures { IfOk result (λ s. s ≡ shown is_bare sibling.now) }
 {
     match sibling {
-        None => Shown::tombstone(alloc),
-        Some(content) => Shown::of_content(alloc, content, is_bare),
+        None => Ok(Shown::tombstone()),
+        Some(content) => Shown::of_content(content, is_bare),
     }
 }
 
@@ -50,7 +52,7 @@ fn show_all(alloc: Global, key: &StoredClock, is_bare: bool) -> Result<Sequence<
 {
     let mut all = Sequence::with_capacity(alloc, room_for(&key.clock))?;
     for sibling in key.clock.values() {
-        all.push(show(alloc, sibling, is_bare)?)?;
+        all.push(show(sibling, is_bare)?)?;
     }
     Ok(all)
 }
@@ -58,7 +60,8 @@ fn show_all(alloc: Global, key: &StoredClock, is_bare: bool) -> Result<Sequence<
 /// The pair that a clock knows, where it knows one alone, as most do.
 #[inline(always)]
 pub(crate) fn only_pair<V: MadeWith<Global> + Drop>(clock: &Clock<V>) -> Option<(Actor, Counter)>
-    ensures { IfSome result (λ pair. entries_of (pair ∷ []) ≡ clock.now.meaning.known) }
+    ensures pair { IfSome result (λ pair. entries_of (pair ∷ []) ≡ clock.now.meaning.known) }
+    ensures clock { IsClock clock.now.meaning }
 {
     let mut known = clock.join();
     let pair = known.next()?;
@@ -83,24 +86,39 @@ fn known_pairs<V: MadeWith<Global> + Drop>(
 }
 
 /// The bytes of a context of these pairs.
-fn write_context(alloc: Global, pairs: &[(Actor, Counter)]) -> Result<Bytes, AllocError>
+fn write_context(alloc: Global, pairs: &[(Actor, Counter)]) -> Result<ContextBytes, AllocError>
     requires { IsTrue (is_well_formed (entries_of pairs.now)) }
     ensures { IfOk result (λ bytes. bytes ≡ encoding (entries_of pairs.now)) }
 {
     let bytes = Context::write(alloc, pairs)?;
-    Ok(Bytes::from_vec(bytes))
+    Ok(ContextBytes::from_vec(bytes))
 }
 
-/// The bytes of a clock's context. A clock that knows one pair needs no list of them.
+/// A context of one pair, but for the pair.
+const PAIR_CONTEXT: [u8; 21] = [
+    2, 0, 0, 0, 0, 0, 0, 0, 0, 0, 0, 0, 0, 0, 0, 0, 0, 0, 0, 0, 0,
+];
+
+/// The bytes of a context of one pair. They take no memory, since so many lie in the value itself.
+#[inline(always)]
+fn pair_context(alloc: Global, actor: Actor, counter: Counter) -> Result<ContextBytes, AllocError>
+    ensures { IfOk result (λ bytes. bytes ≡ encoding (entry_of (actor, counter) ∷ [])) }
+{
+    let mut bytes = PAIR_CONTEXT;
+    bytes[1..].copy_from_slice(&Context::pair_bytes(actor, counter));
+    ContextBytes::from_slice(alloc, &bytes)
+}
+
+/// The bytes of a clock's context.
 fn context_of<V: MadeWith<Global> + Drop>(
     alloc: Global,
     clock: &Clock<V>,
-) -> Result<Bytes, AllocError>
+) -> Result<ContextBytes, AllocError>
     requires { IsTrue (is_well_formed clock.now.meaning.known) }
     ensures { IfOk result (λ bytes. bytes ≡ encoding clock.now.meaning.known) }
 {
     match only_pair(clock) {
-        Some(pair) => write_context(alloc, &[pair]),
+        Some((actor, counter)) => pair_context(alloc, actor, counter),
         None => {
             let pairs = known_pairs(alloc, clock)?;
             write_context(alloc, pairs.as_slice())
@@ -151,7 +169,7 @@ fn accepted(alloc: Global) -> PutReply
 {
     PutReply {
         contents: Sequence::new(alloc),
-        context: Bytes::new(alloc),
+        context: ContextBytes::new(alloc),
     }
 }
 
@@ -195,7 +213,6 @@ fn preview<'a>(
 
 /// A copy of a sibling that stays, or where there is none of the content that is put, as a reply shows it.
 fn show_filled(
-    alloc: Global,
     sibling: Option<&Option<Content>>,
     content: &Content,
     is_bare: bool,
@@ -203,8 +220,8 @@ fn show_filled(
     ensures { IfOk result (λ s. s ≡ shown is_bare (filled content.now sibling.entry)) }
 {
     match sibling {
-        None => Shown::of_content(alloc, content, is_bare),
-        Some(sibling) => show(alloc, sibling, is_bare),
+        None => Shown::of_content(content, is_bare),
+        Some(sibling) => show(sibling, is_bare),
     }
 }
 
@@ -220,9 +237,67 @@ fn show_after(
 {
     let mut all = Sequence::with_capacity(alloc, room_for(after))?;
     for sibling in after.values() {
-        all.push(show_filled(alloc, *sibling, content, is_bare)?)?;
+        all.push(show_filled(*sibling, content, is_bare)?)?;
     }
     Ok(all)
+}
+
+/// The counter of the first dot of a new key's life, where a put at it gives no context.
+fn first_counter(context: Option<&Context<'_>>) -> Option<Counter>
+    ensures { IfSome result (λ counter. (counter ≡ 1) × (seen_in context.entry ≡ None)) }
+{
+    match context {
+        None => Some(1),
+        Some(_) => None,
+    }
+}
+
+/// The counter of the next dot of an actor, where this one alone has written a key, and the context has seen all of it.
+fn next_sole_counter(key: &StoredClock, context: &Context<'_>, actor: Actor) -> Option<Counter>
+    ensures { IfSome result (λ counter. (content : Content) →
+        event actor (Some content) (discard context.now key.now.clock.meaning)
+        ≡ sole (entry_of (actor, counter)) content) }
+{
+    let (only, counter) = only_pair(&key.clock)?;
+    if only == actor && key.matches_clock(context) {
+        return counter.checked_add(1);
+    }
+    None
+}
+
+/// The counter of the dot that a put is given, where its content is the one sibling after it and its actor the one that is known then: at a
+/// new key, and where the context has seen all of a key that this actor alone has written. Most puts that are shown siblings are such, and
+/// need no clock to preview.
+fn sole_counter(
+    found: Option<&StoredClock>,
+    context: Option<&Context<'_>>,
+    actor: Actor,
+) -> Option<Counter>
+    ensures { IfSome result (λ counter. (content : Content) →
+        clock_after (found_in found.entry) (seen_in context.entry) actor content
+        ≡ sole (entry_of (actor, counter)) content) }
+{
+    let Some(key) = found else {
+        return first_counter(context);
+    };
+    next_sole_counter(key, context?, actor)
+}
+
+/// The reply to a put whose content is the one sibling after it, and whose actor the one that is known then.
+fn sole_reply(
+    alloc: Global,
+    put: &PutAsk,
+    actor: Actor,
+    counter: Counter,
+) -> Result<PutReply, AllocError>
+    requires { IsTrue (put.now.return_body || put.now.return_head) }
+    ensures { IfOk result (λ reply. reply
+        ≡ reply_after (sole (entry_of (actor, counter)) put.now.content) put.now) }
+{
+    let mut contents = Sequence::with_capacity(alloc, 1)?;
+    contents.push(Shown::of_content(&put.content, !put.return_body)?)?;
+    let context = pair_context(alloc, actor, counter)?;
+    Ok(PutReply { contents, context })
 }
 
 /// The answer to an accepted put, by what was found of its key before it: nothing, or where it asked for them the
@@ -241,6 +316,9 @@ pub(crate) fn put_reply(
 {
     if !shows_siblings(put) {
         return Ok(accepted(alloc));
+    }
+    if let Some(counter) = sole_counter(found, context, actor) {
+        return sole_reply(alloc, put, actor, counter);
     }
     let after = preview(alloc, found, context, actor)?;
     let contents = show_after(alloc, &after, &put.content, !put.return_body)?;

@@ -100,36 +100,17 @@ const WRITTEN: &[Written] = &[
 /// as much.)
 pub(crate) fn let_go(_read: Result<Reply, MsgFault>) {}
 
-fn let_content_go(_content: Content) {}
-
-/// A copy of the full content, or of it without its value.
-fn copy_of_full(alloc: Global, is_head: bool) -> Result<Content, AllocError> {
-    let full = content(alloc, &FULL)?;
-    let copy = if is_head {
-        full.clone_head(alloc)
-    } else {
-        full.clone()
-    };
-    let_content_go(full);
-    copy
-}
-
-fn content_of(alloc: Global, sibling: &Sibling) -> Result<Content, AllocError> {
-    match sibling {
-        Value(value) => Content::of_value(alloc, value),
-        Tombstone => Content::of_value(alloc, b""),
-        Whole => copy_of_full(alloc, false),
-        Head => copy_of_full(alloc, true),
-    }
+/// A content as a reply shows it, which is let go.
+fn shown_of(content: Content, is_bare: bool) -> Result<Shown, AllocError> {
+    Shown::of_content(&content, is_bare)
 }
 
 fn shown(alloc: Global, sibling: &Sibling) -> Result<Shown, AllocError> {
     match sibling {
-        Tombstone => Shown::tombstone(alloc),
-        _ => Ok(Shown {
-            content: content_of(alloc, sibling)?,
-            deleted: false,
-        }),
+        Value(value) => shown_of(Content::of_value(alloc, value)?, false),
+        Tombstone => Ok(Shown::tombstone()),
+        Whole => shown_of(content(alloc, &FULL)?, false),
+        Head => shown_of(content(alloc, &FULL)?, true),
     }
 }
 
@@ -149,7 +130,7 @@ fn reply(
     unchanged: Option<bool>,
 ) -> Result<Reply, AllocError> {
     let contents = contents(alloc, siblings)?;
-    let context = Bytes::from_slice(alloc, context)?;
+    let context = ContextBytes::from_slice(alloc, context)?;
     match unchanged {
         Some(unchanged) => Ok(Reply::Get(GetReply {
             contents,
@@ -170,7 +151,7 @@ fn write_owned(alloc: Global, reply: Reply) -> Result<Vec<u8>, MsgFault> {
 fn delete_of(alloc: Global, context: &[u8]) -> Result<DelAsk, AllocError> {
     Ok(DelAsk {
         key: Key::of_default_type(alloc, b"b", b"k")?,
-        context: Bytes::from_slice(alloc, context)?,
+        context: ContextBytes::from_slice(alloc, context)?,
     })
 }
 

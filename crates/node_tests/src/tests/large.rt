@@ -4,7 +4,7 @@ use crate::tests::frames::GET;
 use crate::tests::sessions::ended;
 use crate::tests::streams::{Channel, PLAIN, Sink, Source};
 use node_session::{Node, serve};
-use riak_msgs::{Bytes, GetReply, Reply, Request, Sequence, Text};
+use riak_msgs::{ContextBytes, GetReply, Reply, Request, Sequence, Text};
 use std::alloc::{AllocError, Global};
 use std::cell::Cell;
 
@@ -35,7 +35,7 @@ impl Node for Showing {
         match bytes_of(alloc, self.thousands) {
             Ok(bytes) => Reply::Get(GetReply {
                 contents: Sequence::new(alloc),
-                context: Bytes::from_vec(bytes),
+                context: ContextBytes::from_vec(bytes),
                 unchanged: false,
             }),
             Err(_) => Reply::Error(Text::NoMemory),

@@ -7,7 +7,7 @@ use crate::exchanges::steps::{
     GetWith, HasDead, ID, Idle, LastEpoch, LetGo, NONE, PLAIN_GET, PLAIN_PUT, PutOptions, Reap,
     ReapFirst, Refused, Reply, Shows, Sibling, Step, Sweep, Tombstone, Unchanged, Value,
 };
-use riak_msgs::{Bytes, Content, DelAsk, GetAsk, GetReply, Key, PutAsk, Shown};
+use riak_msgs::{Content, ContextBytes, DelAsk, GetAsk, GetReply, Key, PutAsk, Shown};
 use std::alloc::{AllocError, Global};
 use std::process::Abort;
 use tomb_reaper::sweep;
@@ -32,7 +32,7 @@ fn get_of(
     if_modified: &[u8],
     options: GetOptions,
 ) -> Result<GetAsk, AllocError> {
-    let if_modified = Bytes::from_slice(alloc, if_modified)?;
+    let if_modified = ContextBytes::from_slice(alloc, if_modified)?;
     Ok(GetAsk {
         key: key_of(alloc, name)?,
         if_modified,
@@ -48,7 +48,7 @@ fn put_of(
     context: &[u8],
     options: PutOptions,
 ) -> Result<Ask, AllocError> {
-    let context = Bytes::from_slice(alloc, context)?;
+    let context = ContextBytes::from_slice(alloc, context)?;
     let content = Content::of_value(alloc, value)?;
     Ok(Ask::Put(PutAsk {
         key: key_of(alloc, name)?,
@@ -78,7 +78,7 @@ fn put_after_others(alloc: Global, count: u8) -> Result<Ask, AllocError> {
 }
 
 fn del_of(alloc: Global, name: &[u8], context: &[u8]) -> Result<Ask, AllocError> {
-    let context = Bytes::from_slice(alloc, context)?;
+    let context = ContextBytes::from_slice(alloc, context)?;
     Ok(Ask::Del(DelAsk {
         key: key_of(alloc, name)?,
         context,

@@ -4,7 +4,7 @@ use crate::gates::steps::Step::{LookAnew, Seen, Write};
 use crate::gates::steps::Who::Ann;
 use crate::gates::steps::{Outcome, Request, Step, Turn, View, plays};
 use crate::gates::threads::{Work, is_end, makes_rounds, name_of};
-use riak_msgs::{Bytes, DelAsk, GetAsk, GetReply, Key, PutAsk};
+use riak_msgs::{ContextBytes, DelAsk, GetAsk, GetReply, Key, PutAsk};
 use rw_gate::Gate;
 use std::alloc::Global;
 use std::process::Abort;
@@ -58,7 +58,7 @@ fn put(alloc: Global, key: &[u8], value: &[u8]) -> Option<Ask> {
 fn del(alloc: Global, key: &[u8]) -> Option<Ask> {
     match Key::of_default_type(alloc, b"b", key) {
         Ok(key) => {
-            let context = Bytes::new(alloc);
+            let context = ContextBytes::new(alloc);
             Some(Ask::Del(DelAsk { key, context }))
         }
         Err(_) => None,
