@@ -2,8 +2,8 @@
 ghost use Rattle.std.specs.Prelude.{◌≤◌, IfSome};
 ghost use Rattle.node_commands.specs.Runs.{IsNewRun};
 
-use byte_streams::MAX_READS;
 use gate_node::Shared;
+use pb_frame::MAX_READS;
 use ring_map::Ring;
 use std::alloc::Global;
 

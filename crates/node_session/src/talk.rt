@@ -13,7 +13,7 @@ use crate::node::Node;
 use crate::scratch::Scratch;
 use crate::session::{Halt, Next, Session};
 use crate::stage::Stage;
-use byte_streams::{Flushed, Wrote, try_flush, try_write};
+use pb_frame::{Flushed, Wrote, try_flush, try_write};
 use std::alloc::Global;
 use std::io::{Read, Write};
 

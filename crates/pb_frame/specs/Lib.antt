@@ -4,3 +4,4 @@ pub mod Message
 pub mod Stream
 pub mod Taking
 pub mod Run
+pub mod Trying

@@ -17,6 +17,7 @@
 //! **How it is built.** A buffer, and how much of it was taken: [`Framer::take`] moves that mark
 //! alone, and [`Framer::feed`] moves what is left to the front once it is at most half of the
 //! buffer. [`frame_of`] encodes a message, and [`header`] the bytes in front of a body that is written behind it.
+//! [`try_write`] and its kin write frames to a stream, and say how many of their bytes it took.
 //!
 //! ```text
 //! Framer::new(alloc, 100)
@@ -35,6 +36,7 @@ mod framer;
 mod idle;
 mod laws;
 mod limits;
+mod stream;
 
 pub use encode::{HEADER_LEN, frame_of, header};
 pub use fault::FrameFault;
@@ -45,3 +47,4 @@ pub use laws::{
     any_pieces, bad_length, every_stream, first_messages, none_left, one_split, request_limit,
 };
 pub use limits::{MAX_BODY_LEN, MAX_REQUEST_LEN};
+pub use stream::{Flushed, MAX_READS, WriteFailed, Wrote, flush, try_flush, try_write, write_some};

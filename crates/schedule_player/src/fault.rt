@@ -1,6 +1,6 @@
 //! Why a schedule is not played to its end.
 
-use byte_streams::WriteFailed;
+use pb_frame::WriteFailed;
 use std::alloc::AllocError;
 use thiserror::Error;
 

@@ -6,7 +6,7 @@ ghost use Rattle.schedule_player.specs.Progress.{PlaysEnd, PlaysPiece, WritesEnd
 use crate::fault::StepsFault;
 use crate::player::Player;
 use crate::sending::send;
-use byte_streams::flush;
+use pb_frame::flush;
 use schedule_text::write_verdict;
 use std::alloc::Global;
 use std::io::Write;

@@ -9,7 +9,7 @@ use crate::fault::StepsFault;
 use crate::opening::new_player;
 use crate::pieces::{finish, play_piece};
 use crate::player::Player;
-use byte_streams::{MAX_READS, flush};
+use pb_frame::{MAX_READS, flush};
 use ring_map::Ring;
 use std::alloc::Global;
 use std::io::{ErrorKind, Read, Write};

@@ -3,7 +3,7 @@
 ghost use Rattle.schedule_player.specs.Sent.{Sends};
 
 use crate::fault::StepsFault;
-use byte_streams::write_some;
+use pb_frame::write_some;
 use std::io::Write;
 
 /// Writes all of the bytes, or fails with a beginning of them written.

@@ -1,5 +1,5 @@
 use Rattle.std.specs.Io.KnownBytes.{Keeps}
-use Rattle.byte_streams.proofs.try_write.Given as goal
+use Rattle.pb_frame.proofs.stream.try_flush.Given as goal
 
 abbrev pub invariant-loop : goal.invariant-loop
 invariant-loop g l = Keeps (g.W.Write.contents l.initial.writer) (g.W.Write.contents l.writer)

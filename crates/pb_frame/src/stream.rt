@@ -15,11 +15,10 @@
 //! write_some(a writer that is full, "c") == Err(WriteFailed)             // nothing was written
 //! try_write(a writer that would have to wait, "c") == Wrote::Blocked     // nothing was written
 //! ```
-#![tactic(auto)]
 
 ghost use Rattle.std.specs.Prelude.{◌<◌, ◌≤◌, length, take, IfOk, OnErr};
 ghost use Rattle.std.specs.Io.KnownBytes.{Appends, Keeps};
-ghost use Rattle.byte_streams.specs.Trying.{WritesSome};
+ghost use Rattle.pb_frame.specs.Trying.{WritesSome};
 
 use std::io::{ErrorKind, Write};
 

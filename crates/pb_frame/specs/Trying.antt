@@ -1,8 +1,8 @@
 -- What one call of a writer comes to.
 use Rattle.std.specs.Prelude.{ℕ, ◌<◌, ◌≤◌, List, Option, length, take}
 use Rattle.std.specs.Io.KnownBytes.{Appends, Keeps}
-use Rattle.byte_streams.specs.declared.Wrote.{Wrote}
-use Rattle.byte_streams.specs.declared.Wrote.TheVariants.{Bytes, Blocked, Failed}
+use Rattle.pb_frame.specs.declared.stream.Wrote.{Wrote}
+use Rattle.pb_frame.specs.declared.stream.Wrote.TheVariants.{Bytes, Blocked, Failed}
 
 -- some of the bytes were written, from the first on, or nothing was
 abbrev pub WritesSome : Option (List ℕ) → Option (List ℕ) → List ℕ → Wrote → Type 0
