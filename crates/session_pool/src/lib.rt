@@ -43,7 +43,6 @@ mod served;
 mod settle;
 mod station;
 mod stay;
-mod stream_readiness;
 mod suspended;
 mod teller;
 mod tray;
@@ -51,7 +50,7 @@ mod watch;
 
 pub use end_sink::{EndSink, SessionEnd};
 pub use gate_node::{Open, Passes, PoolFault, Shared, Turnstile};
-pub use job_pool::{JobFault, Jobs};
+pub use job_pool::{JobFault, Jobs, StreamReadiness};
 pub use laws::{
     sessions_are_at_positions, sessions_go_on, sessions_stay_in_their_run,
     told_sessions_are_at_positions, told_sessions_are_legal,
@@ -63,5 +62,4 @@ pub use rest::{Began, Rest};
 pub use run_node::RunNode;
 pub use seat::Seat;
 pub use served::Served;
-pub use stream_readiness::StreamReadiness;
 pub use suspended::Suspended;

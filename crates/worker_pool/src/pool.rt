@@ -14,8 +14,9 @@ use crate::server::{ServedJob, Server};
 use crate::stream_readiness::{Shown, new_rounds};
 use crate::tray::{Tray, stocks_of, trays_of};
 use gate_node::{PoolFault, Shared, Turnstile, tallies_of};
-use job_pool::{Bell, Finished, Jobs, Post, Rounds, RunFault, Wake, Wakes, run_with};
-use session_pool::StreamReadiness;
+use job_pool::{
+    Bell, Finished, Jobs, Post, Rounds, RunFault, StreamReadiness, Wake, Wakes, run_with,
+};
 use stats_book::{Blanks, Book, Stock, close_stocks, open_stocks};
 use std::alloc::Global;
 use std::marker::{Brand, PhantomData};

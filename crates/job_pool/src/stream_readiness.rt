@@ -1,11 +1,13 @@
-//! What a worker waits with that has sessions open.
-use job_pool::{Moved, Rounds, Turn};
+//! What a worker waits with whose jobs read and write streams.
+use crate::readiness::Turn;
+use crate::rounds::Rounds;
+use crate::service::Moved;
 use std::sync::Wait;
 
-/// What a worker of [`serve`](crate::serve) waits with, and which of its sessions have their turn: a [`job_pool::Readiness`] that is shown the streams
-/// of a session when it begins or goes on.
+/// What a worker waits with, and which of its slots have their turn, where each job is a session over a reader and a writer: a
+/// [`Readiness`](crate::Readiness) that is shown these streams when a session begins or goes on, whatever else the session is made of.
 ///
-/// No clause speaks of that: whichever session has its turn, and when, each comes to the end that `serve` of `node_session` promises, or rests.
+/// No clause speaks of that: whichever session has its turn, and when, each comes to the end that its service promises.
 pub trait StreamReadiness<R, W> {
     /// Whether a session is to be taken out of the queue now; `is_idle` where none is open. A worker that has taken its stop mark isn't asked.
     fn takes(&mut self, is_idle: bool) -> bool;
