@@ -1,6 +1,6 @@
 //! A node as one would write it without proofs, to compare with: the same requests and replies, a hash map under one lock for each vnode, a
-//! thread for each connection. It knows what the benchmarks send: pings, gets, puts with `return_head`, and deletes, with contexts of
-//! version 2, over the default bucket type. No options beside, no refusals, no limits.
+//! thread for each connection. It knows what the benchmarks send: pings, gets with `head`, puts with `return_body` and `return_head`, and
+//! deletes, with contexts of version 2, over the default bucket type. No options beside, no refusals, no limits.
 //!
 //!     rustc -O -o node node.rs
 //!     node pipe [RING]
@@ -39,6 +39,8 @@ struct Request<'a> {
     key: &'a [u8],
     context: &'a [u8],
     content: &'a [u8],
+    head: bool,
+    return_body: bool,
     return_head: bool,
 }
 
@@ -76,7 +78,12 @@ fn read_request(code: u8, body: &[u8]) -> Request<'_> {
         let tag = varint(body, &mut at);
         let value = varint(body, &mut at);
         if tag & 7 == 0 {
-            request.return_head |= code == 11 && tag >> 3 == 11 && value != 0;
+            match (code, tag >> 3) {
+                (9, 8) => request.head = value != 0,
+                (11, 7) => request.return_body = value != 0,
+                (11, 11) => request.return_head = value != 0,
+                _ => {}
+            }
             continue;
         }
         let bytes = &body[at..at + value];
@@ -152,9 +159,9 @@ impl Clock {
 }
 
 impl Vnode {
-    fn get(&self, name: &[u8], out: &mut Vec<u8>) {
+    fn get(&self, name: &[u8], is_head: bool, out: &mut Vec<u8>) {
         if let Some(clock) = self.keys.get(name).filter(|clock| !clock.is_dead()) {
-            clock.show(false, out);
+            clock.show(is_head, out);
         }
     }
 
@@ -165,8 +172,8 @@ impl Vnode {
         });
         clock.discard(request.context);
         clock.event(value);
-        if request.return_head {
-            clock.show(true, out);
+        if request.return_body || request.return_head {
+            clock.show(!request.return_body, out);
         }
     }
 
@@ -243,7 +250,7 @@ fn answer(vnodes: &[Mutex<Vnode>], code: u8, body: &[u8], out: &mut Vec<u8>) {
         let index = if vnodes.len() == 1 { 0 } else { digest(&name) as u64 * vnodes.len() as u64 >> 32 };
         let mut vnode = vnodes[index as usize].lock().unwrap();
         match code {
-            9 => vnode.get(&name, out),
+            9 => vnode.get(&name, request.head, out),
             11 => vnode.change(name, &request, Some(request.content.to_vec()), out),
             _ => vnode.delete(name, &request, out),
         }
