@@ -118,3 +118,7 @@ one_more n k l z e = grind (arith, nat_tests)
 
 pub no_more : (n k l : ℕ) → (n ≡ 0 → ⊥) → l ≡ cond (nat_le 1 n) k (k + 1) → k ≡ l
 no_more n k l z e = grind (arith, nat_tests)
+
+-- an actor whose counter isn't 0 has one in what is known with a context
+pub own_counts : (own given seen : ℕ) → (own ≡ 0 → ⊥) → max own given ≡ seen → seen ≡ 0 → ⊥
+own_counts own given seen some is none = let zero : own ≡ 0 = omega (arith, is, none) in some zero

@@ -121,8 +121,8 @@ pub(crate) fn required_room<V>(
     (seen, new)
 }
 
-/// For how many entries more room has to be made for the next event of an actor, without what a context saw: for none, where
-/// there is room for one more than the context adds. Only where there isn't, the actor is searched for.
+/// For how many entries more room has to be made for the next event of an actor, without what a context saw: where the actor has an entry,
+/// as most have, for those that the context adds; else for none, where there is room for one more than these.
 #[inline(always)]
 pub(crate) fn more_entries<V>(
     entries: &[Entry<V>],
@@ -139,6 +139,10 @@ pub(crate) fn more_entries<V>(
         → IsTrue (is_well_formed ps) }
 {
     let new = count_new_in(entries, context);
+    let own = last_counter(entries, actor);
+    if own != 0 {
+        return new;
+    }
     if entries.len() + new + 1 <= room {
         return 0;
     }
