@@ -13,6 +13,10 @@ const SHOWN_CONTEXT: &[u8] = b"\x02\0\0\0\0\0\x01\0\0\0\0\0\x01\0\0\0\0\0\0\0\x0
 /// The same of version 1, as clients that got it before may give it.
 const CONTEXT: &[u8] = b"\x01\0\0\0\0\0\x01\0\0\0\0\0\x01\0\0\0\x01";
 
+/// Two entries of version 1, of two vnodes: more than the 24 bytes that take no memory.
+const CONTEXT_OF_TWO: &[u8] =
+    b"\x01\0\0\0\0\0\x01\0\0\0\0\0\x01\0\0\0\x01\0\0\0\0\0\x01\0\x01\0\0\0\x01\0\0\0\x02";
+
 /// Bucket b and key k, as fields 1 and 2.
 const NAMES: &[u8] = b"\x0a\x01b\x12\x01k";
 

@@ -118,15 +118,27 @@ fn are_details(details: &Details<'_>, row: &ContentRow) -> bool {
         && are_pairs(details.indexes.as_slice(), row.indexes)
 }
 
+/// The details that were read are those of the row.
+fn is_read(read: &Result<Details<'_>, MsgFault>, row: &ContentRow) -> bool {
+    match read {
+        Ok(details) => are_details(details, row),
+        Err(_) => false,
+    }
+}
+
 /// Where memory is refused for the details, they are read once more.
 fn has_details(alloc: Global, content: &Content, row: &ContentRow) -> bool {
-    match content.details(alloc) {
-        Ok(details) => are_details(&details, row),
-        Err(_) => match content.details(alloc) {
-            Ok(details) => are_details(&details, row),
-            Err(_) => false,
-        },
-    }
+    is_read(&content.details(alloc), row) || is_read(&content.details(alloc), row)
+}
+
+/// So is it with those of a content that is shown.
+fn shows_details(alloc: Global, content: &ShownContent, row: &ContentRow) -> bool {
+    is_read(&content.details(alloc), row) || is_read(&content.details(alloc), row)
+}
+
+/// The content that is shown has the fields of the row, and no others.
+pub(crate) fn is_shown(alloc: Global, content: &ShownContent, row: &ContentRow) -> bool {
+    content.value() == row.value && shows_details(alloc, content, row)
 }
 
 /// The content has the fields of the row, and no others.

@@ -1,6 +1,6 @@
 //! Replies, as this node writes them and as a client reads them, and a request that a client makes.
 
-use crate::messages::contents::{FULL, content};
+use crate::messages::contents::{ContentRow, FULL, V, content, is_shown};
 use crate::messages::{SHOWN_CONTEXT, reading};
 use riak_msgs::*;
 use std::alloc::{AllocError, Global};
@@ -195,6 +195,40 @@ fn writes_what_is_made(rt: HostRuntime) {
     for row in WRITTEN {
         assert!(rt; writes(rt.alloc(), row), "{}", row.shows);
     }
+}
+
+/// The full content as a reply shows it, with its value or bare.
+const SHOWN: &[(bool, ContentRow)] = &[(false, FULL), (true, ContentRow { value: b"", ..FULL })];
+
+/// The full content as a reply shows it.
+fn full_shown(alloc: Global, is_bare: bool) -> Result<Shown, AllocError> {
+    shown_of(content(alloc, &FULL)?, is_bare)
+}
+
+fn is_shown_as(alloc: Global, shown: &Result<Shown, AllocError>, row: &ContentRow) -> bool {
+    match shown {
+        Ok(shown) => !shown.deleted && is_shown(alloc, &shown.content, row),
+        Err(_) => false,
+    }
+}
+
+fn shows_full(alloc: Global, is_bare: bool, row: &ContentRow) -> bool {
+    is_shown_as(alloc, &full_shown(alloc, is_bare), row)
+        || is_shown_as(alloc, &full_shown(alloc, is_bare), row)
+}
+
+/// A tombstone shows no value and no details.
+fn shows_tombstone(alloc: Global) -> bool {
+    let shown = Shown::tombstone();
+    shown.deleted && is_shown(alloc, &shown.content, &ContentRow { value: b"", ..V })
+}
+
+#[test]
+fn a_content_is_shown_with_its_details(rt: HostRuntime) {
+    for (is_bare, row) in SHOWN {
+        assert!(rt; shows_full(rt.alloc(), *is_bare, row), "bare: {is_bare}");
+    }
+    assert!(rt; shows_tombstone(rt.alloc()), "a tombstone");
 }
 
 /// The texts of the formats: of faults, and of refusals.

@@ -128,6 +128,12 @@ const REQUESTS: &[Read] = &[
         asked: Get(b"maps", b"", &[]),
     },
     Read {
+        shows: "a get with if_modified of two entries, which takes memory",
+        code: 9,
+        body: b"\x0a\x01b\x12\x01k\x3a\x21\x01\0\0\0\0\0\x01\0\0\0\0\0\x01\0\0\0\x01\0\0\0\0\0\x01\0\x01\0\0\0\x01\0\0\0\x02",
+        asked: Get(DEFAULT, CONTEXT_OF_TWO, &[]),
+    },
+    Read {
         shows: "a get with if_modified alone",
         code: 9,
         body: GET_IF_MODIFIED,
@@ -192,6 +198,12 @@ const REQUESTS: &[Read] = &[
         code: 11,
         body: PUT,
         asked: Put(DEFAULT, b"", V, &[]),
+    },
+    Read {
+        shows: "a put by a context of two entries, which takes memory",
+        code: 11,
+        body: b"\x0a\x01b\x12\x01k\x1a\x21\x01\0\0\0\0\0\x01\0\0\0\0\0\x01\0\0\0\x01\0\0\0\0\0\x01\0\x01\0\0\0\x01\0\0\0\x02\x22\x03\x0a\x01x",
+        asked: Put(DEFAULT, CONTEXT_OF_TWO, X, &[]),
     },
     Read {
         shows: "a put by a context",
@@ -300,6 +312,12 @@ const REQUESTS: &[Read] = &[
         code: 13,
         body: NAMES,
         asked: Del(DEFAULT, b""),
+    },
+    Read {
+        shows: "a delete by a context of two entries, which takes memory",
+        code: 13,
+        body: b"\x0a\x01b\x12\x01k\x22\x21\x01\0\0\0\0\0\x01\0\0\0\0\0\x01\0\0\0\x01\0\0\0\0\0\x01\0\x01\0\0\0\x01\0\0\0\x02",
+        asked: Del(DEFAULT, CONTEXT_OF_TWO),
     },
     Read {
         shows: "a delete with the context in field 4",

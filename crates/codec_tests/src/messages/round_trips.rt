@@ -187,6 +187,12 @@ const MESSAGES: &[Message] = &[
         body: b"\x0a\x2a\x0a\x01v\x12\x01t\x1a\x01c\x22\x01e\x32\x06\x0a\x01b\x1a\x01t\x32\0\x4a\x03\x0a\x01m\x4a\x05\x0a\x01n\x12\0\x52\x06\x0a\x01i\x12\x01x",
     },
     Message {
+        shows: "the reply to a put with a context of two entries, which takes memory",
+        kind: Kind::Reply,
+        code: 12,
+        body: b"\x0a\x03\x0a\x01v\x12\x21\x01\0\0\0\0\0\x01\0\0\0\0\0\x01\0\0\0\x01\0\0\0\0\0\x01\0\x01\0\0\0\x01\0\0\0\x02",
+    },
+    Message {
         shows: "a get of a type, a bucket and a key of twenty bytes",
         kind: Kind::Request,
         code: 9,
