@@ -13,8 +13,7 @@ use Rattle.sibling_register.specs.Answers.{RegisterAsk as Command, AskGet, AskPu
 use Rattle.sibling_register.specs.Refusals.{no_memory}
 use Rattle.sibling_register.specs.History.{Operation}
 use Rattle.sibling_register.specs.Legal.{IsLegal}
-use Rattle.actor_epoch.specs.Given.{Context}
-use Rattle.vnode_machine.specs.Asks.{get_command, put_command, del_command}
+use Rattle.vnode_machine.specs.Asks.{Context, get_command, put_command, del_command}
 use Rattle.vnode_machine.specs.Machine.{State}
 use Rattle.vnode_machine.specs.Registers.{IsRegisters, IsTold, IsNext, next_event}
 use Rattle.vnode_machine.specs.Replay.{History, naming, IsWithinLimits, IsAfter}

@@ -11,7 +11,7 @@ use Rattle.rw_gate.specs.Views.{GateId}
 use Rattle.vnode_machine.specs.Replay.{IsWithinLimits}
 use Rattle.vnode_core.specs.Plans.{View}
 use Rattle.vnode_core.specs.Events.{IsMadeNew}
-use Rattle.ghost_state.proofs.Lists.{set-here}
+use Rattle.handoff.proofs.Returns.{set-here}
 use Rattle.stats_book.specs.declared.quantity.Quantity.{Quantity}
 use Rattle.stats_book.specs.Counter.{Count, CountsAnswer}
 use Rattle.handoff.specs.declared.gates.Fallback.{Fallback}

@@ -8,7 +8,7 @@ use mathlib.Core.List.{IsPrefix}
 use Rattle.riak_msgs.specs.declared.Request.{Request}
 use Rattle.riak_msgs.specs.declared.Request.TheVariants as requests
 use Rattle.riak_msgs.specs.declared.Reply.{Reply}
-use Rattle.rw_gate.proofs.Prefixes.{prefix_trans}
+pub use Rattle.rw_gate.proofs.Prefixes.{prefix_trans}
 use Rattle.vnode_core.specs.declared.ask.Ask.TheVariants as asks
 use Rattle.vnode_core.specs.declared.entry.Entry.{Entry}
 use Rattle.vnode_core.proofs.Entries.{commands_before}

@@ -3,9 +3,9 @@ use Rattle.std.specs.Prelude.{◌≡◌, ◌<◌, ◌≤◌, ◌⊎◌, ℕ, len
 use Rattle.std.specs.Option.{option_map_or}
 use mathlib.Core.List.{IsPrefix}
 use Rattle.ring_map.specs.Ring.{id_of}
-use Rattle.riak_msgs.specs.declared.Request.{Request}
+pub use Rattle.riak_msgs.specs.declared.Request.{Request}
 use Rattle.riak_msgs.specs.declared.Request.TheVariants as requests
-use Rattle.riak_msgs.specs.declared.Reply.{Reply}
+pub use Rattle.riak_msgs.specs.declared.Reply.{Reply}
 use Rattle.riak_msgs.specs.declared.Reply.TheVariants as replies
 use Rattle.vnode_core.specs.declared.ask.Ask.TheVariants as asks
 use Rattle.riak_msgs.specs.declared.Text.{Text}

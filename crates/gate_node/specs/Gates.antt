@@ -3,7 +3,7 @@ use Rattle.std.specs.Prelude.{ℕ, List, Option}
 use Rattle.rw_gate.specs.Views.{GateId}
 use Rattle.vnode_core.specs.Plans.{View}
 use Rattle.handoff.specs.declared.gates.Fallback.{Fallback}
-use Rattle.handoff.specs.Partitions.{HandoffView}
+pub use Rattle.handoff.specs.Partitions.{HandoffView, AreNone, AreOfNewRun, IsDiverted}
 
 -- how many bits number the partitions, which run it is, how many dead keys are forgotten at most after an answer, how often a
 -- session reads at most, the gates in the partitions' order, and the fallback of each partition that is diverted

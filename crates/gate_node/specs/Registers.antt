@@ -2,7 +2,7 @@
 use Rattle.std.specs.Prelude.{◌≡◌, ◌≢◌, ◌⊎◌, if◌then◌else◌, ℕ, List, [], Option, Some, None, Result, MatchOption, slice_get, unwrap_or}
 use Rattle.std.specs.Option.{option_map_or}
 use mathlib.Core.List.{IsPrefix}
-use Rattle.pb_frame.specs.Message.{CodedMessage}
+use Rattle.node_session.specs.SessionLaws.{CodedMessage}
 use Rattle.ring_map.specs.Ring.{id_of}
 use Rattle.riak_msgs.specs.declared.Key.{Key}
 use Rattle.riak_msgs.specs.Contents.{Content}
@@ -11,8 +11,7 @@ use Rattle.riak_msgs.specs.declared.Reply.{Reply}
 use Rattle.riak_msgs.specs.declared.Reply.TheVariants as replies
 use Rattle.riak_msgs.specs.declared.Text.TheVariants as texts
 use Rattle.sibling_register.specs.Answers.{RegisterAsk}
-use Rattle.actor_epoch.specs.Given.{Context}
-use Rattle.vnode_machine.specs.Asks.{request_ask}
+use Rattle.vnode_machine.specs.Asks.{Context, request_ask}
 use Rattle.vnode_machine.specs.Machine.{State}
 use Rattle.vnode_machine.specs.Replay.{History}
 use Rattle.vnode_machine.specs.Step.{Response}

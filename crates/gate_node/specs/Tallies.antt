@@ -5,7 +5,7 @@ use Rattle.vnode_machine.specs.Machine.{State}
 use Rattle.rw_gate.specs.Views.{GateId}
 use Rattle.rw_gate.specs.Histories.{RunFrom}
 use Rattle.vnode_core.specs.declared.entry.Entry.{Entry}
-use Rattle.vnode_core.specs.declared.vnode.tally.Tally.{Tally}
+pub use Rattle.vnode_core.specs.declared.vnode.tally.Tally.{Tally}
 use Rattle.vnode_core.specs.Events.{AreCommands, Makes}
 use Rattle.vnode_core.specs.Plans.{View}
 use Rattle.gate_node.specs.Asked.{state_of}

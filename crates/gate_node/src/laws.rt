@@ -1,6 +1,6 @@
 //! Where a node over gates answers.
 ghost use Rattle.std.specs.Prelude.{◌≡◌, ℕ, List};
-ghost use Rattle.pb_frame.specs.Message.{CodedMessage};
+ghost use Rattle.node_session.specs.SessionLaws.{CodedMessage};
 ghost use Rattle.riak_msgs.specs.Contents.{Content};
 ghost use Rattle.riak_msgs.specs.declared.Request.{Request};
 ghost use Rattle.riak_msgs.specs.declared.Reply.{Reply};

@@ -84,6 +84,8 @@ pub use node::GateNode;
 pub use partition_cache::PartitionCache;
 pub use passes::{HasPasses, Passes};
 pub use reserve::Reserve;
+pub use ring_map::Ring;
 pub use shared::Shared;
 pub use tallies::{RunTallies, tallies_of};
 pub use turnstile::{Open, Turnstile};
+pub use vnode_core::Tally;

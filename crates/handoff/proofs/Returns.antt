@@ -4,7 +4,8 @@ use Rattle.std.specs.Prelude.{IsTrue, Option, Some, None, IfSome, slice_get, zer
 use Rattle.std.specs.List.{list_all}
 use Rattle.std.specs.Option.{option_map_or}
 use mathlib.Core.List.{IsPrefix}
-use Rattle.ghost_state.proofs.Lists.{set-here}
+pub use Rattle.ghost_state.proofs.Lists.{set-here}
+pub use Rattle.rw_gate.proofs.Prefixes.{prefix_shorter, prefix_trans}
 use Rattle.ring_map.specs.Ring.{id_of}
 use Rattle.riak_msgs.specs.declared.Key.{Key}
 use Rattle.riak_msgs.specs.Contents.{Content}

@@ -9,7 +9,7 @@ use Rattle.sibling_register.specs.History.{Event, Operation, Write, Tombstone, R
 use Rattle.actor_epoch.specs.declared.Dot.{Dot}
 use Rattle.actor_epoch.specs.Dots.{dot_eq, covers}
 use Rattle.actor_epoch.specs.Given.{Context, Pairs}
-use Rattle.dvv_set.proofs.Live.{dot_eq-same}
+use Rattle.vnode_machine.proofs.Sights.{dot_eq-same}
 use Rattle.vnode_machine.specs.Lives.{dot_of}
 use Rattle.vnode_machine.specs.Machine.{clock_of, pairs_of}
 use Rattle.vnode_machine.specs.Replay.{HasReplay, History, replay}

@@ -1,7 +1,7 @@
 -- What the end of a diversion says of its partition, beside what the law of copies asks.
 use Rattle.std.specs.Prelude.{◌≡◌, ◌≢◌, ◌⊎◌, ◌≤◌, ◌<◌, ◌+◌, ◌++◌, ℕ, List, [], ◌∷◌, length, IsTrue}
 use Rattle.std.specs.List.{list_all}
-use Rattle.riak_msgs.specs.declared.Key.{Key}
+pub use Rattle.riak_msgs.specs.declared.Key.{Key}
 use Rattle.riak_msgs.specs.Contents.{Content}
 use Rattle.sibling_register.specs.History.{Event, count_of, events_of, is_update}
 use Rattle.actor_epoch.specs.declared.Dot.{Dot}

@@ -1,9 +1,9 @@
 -- The partitions of a run: the gate of each, and the fallbacks of those that are diverted.
 use Rattle.std.specs.Prelude.{◌≡◌, ◌<◌, ◌≤◌, ◌+◌, ◌^◌, ◌⊎◌, ℕ, List, [], ◌∷◌, length, Option, Some, None, IfSome, MatchOption, slice_get, slice_set}
 use Rattle.ring_map.specs.Ring.{id_of}
-use Rattle.rw_gate.specs.Views.{GateId}
+pub use Rattle.rw_gate.specs.Views.{GateId}
 use Rattle.vnode_machine.specs.Replay.{IsWithinLimits}
-use Rattle.vnode_core.specs.Plans.{View}
+pub use Rattle.vnode_core.specs.Plans.{View}
 use Rattle.vnode_core.specs.Events.{IsMadeNew}
 use Rattle.handoff.specs.declared.fault.HandoffFault.{HandoffFault}
 use Rattle.handoff.specs.declared.fault.HandoffFault.TheVariants.{AlreadyDiverted, NoMemory}

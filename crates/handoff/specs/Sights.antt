@@ -5,7 +5,7 @@ use Rattle.vnode_machine.specs.Machine.{State}
 use Rattle.vnode_machine.specs.Replay.{IsWithinLimits}
 use Rattle.rw_gate.specs.Views.{GateId, PassView}
 use Rattle.rw_gate.specs.Histories.{RunFrom}
-use Rattle.vnode_core.specs.declared.entry.Entry.{Entry}
+pub use Rattle.vnode_core.specs.declared.entry.Entry.{Entry}
 use Rattle.vnode_core.specs.Events.{IsMadeNew, Makes}
 use Rattle.vnode_core.specs.Plans.{View}
 

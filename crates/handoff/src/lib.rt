@@ -63,3 +63,5 @@ pub use laws::{
     shown_contexts_name, turns_spare_reaps,
 };
 pub use partitions::Handoff;
+pub use rw_gate::{Gate, Pass, ReadRight};
+pub use vnode_core::{Tally, Vnode};

@@ -2,7 +2,7 @@
 use Rattle.std.proofs.Common.{◌≡◌, ◌∙◌, ◌+◌, ◌^◌, ◌<◌, ◌++◌, ℕ, zero, suc, List, [], ◌∷◌, length, refl, sym, ap, subst, arith, inl, inr}
 use Rattle.std.specs.Prelude.{Option, Some, None, slice_get, slice_set}
 use Rattle.std.proofs.lemmas.Bool.{cases_eq}
-use Rattle.ghost_state.proofs.Lists.{set-here}
+use Rattle.handoff.proofs.Returns.{set-here}
 use Rattle.handoff.specs.declared.gates.Fallback.{Fallback}
 use Rattle.handoff.specs.Partitions.{AreNone, AreOfNewRun, HandoffView, IsDiverted}
 use Rattle.handoff_tracks.specs.declared.track.HandoffTrack.{HandoffTrack}

@@ -3,22 +3,17 @@ use Rattle.std.proofs.Common.{◌≡◌, ◌≢◌, ◌∙◌, ◌+◌, ◌≤�
 use Rattle.std.specs.Prelude.{Option, Some, None, IfSome, MatchOption, slice_get, slice_set}
 use Rattle.std.proofs.lemmas.List.{append-nil}
 use mathlib.Core.List.{IsPrefix}
-use Rattle.ghost_state.proofs.Lists.{set-here}
-use Rattle.rw_gate.specs.Views.{GateId}
-use Rattle.rw_gate.proofs.Prefixes.{prefix_shorter, prefix_trans}
-use Rattle.vnode_core.specs.declared.entry.Entry.{Entry}
-use Rattle.vnode_core.specs.Plans.{View}
 use Rattle.handoff.specs.declared.copying.Copied.{Copied as CopyBack}
 use Rattle.handoff.specs.declared.fault.Returned.{Returned}
 use Rattle.handoff.specs.declared.gates.Fallback.{Fallback}
 use Rattle.handoff.specs.declared.gates.Start.{Start}
-use Rattle.handoff.proofs.Returns.{gate-is, gate-there}
+use Rattle.handoff.proofs.Returns.{gate-is, gate-there, set-here, prefix_shorter, prefix_trans}
 use Rattle.handoff.specs.Copying.{CopiesBack, IsCopiedBack}
 use Rattle.handoff.specs.Joined.{CopyInTurn, keys_copied}
-use Rattle.handoff.specs.Partitions.{BeginsBehind, HandoffView, IsDiverted}
+use Rattle.handoff.specs.Partitions.{BeginsBehind, GateId, HandoffView, IsDiverted, View}
 use Rattle.handoff.specs.Returning.{HasReturned}
 use Rattle.handoff.specs.Running.{Diversion, HasReturnedBehind, HaveReturned, commands_in, counted_here, last_fallback, seen_here, seen_there}
-use Rattle.handoff.specs.Sights.{Sight}
+use Rattle.handoff.specs.Sights.{Entry, Sight}
 use Rattle.handoff_tracks.specs.declared.track.Copies.{Copies}
 use Rattle.handoff_tracks.specs.declared.track.LastReturn.{LastReturn}
 use Rattle.handoff_tracks.specs.declared.track.HandoffTrack.{HandoffTrack}

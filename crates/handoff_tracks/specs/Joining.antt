@@ -1,10 +1,7 @@
 -- What is known of a partition's diversions says of its keys.
 use Rattle.std.specs.Prelude.{◌≡◌, ℕ, List, ◌∷◌, length, Some, slice_get}
-use Rattle.riak_msgs.specs.declared.Key.{Key}
-use Rattle.rw_gate.specs.Views.{GateId}
-use Rattle.vnode_core.specs.Plans.{View}
-use Rattle.handoff.specs.Joined.{IsJoinedIn}
-use Rattle.handoff.specs.Partitions.{HandoffView}
+use Rattle.handoff.specs.Joined.{Key, IsJoinedIn}
+use Rattle.handoff.specs.Partitions.{GateId, HandoffView, View}
 use Rattle.handoff.specs.Running.{Diversion, GiveShown, HaveReturned, fallbacks_of, log_of, partition_of}
 use Rattle.handoff_tracks.specs.declared.track.LastReturn.{LastReturn}
 use Rattle.handoff_tracks.specs.declared.track.HandoffTrack.{HandoffTrack}

@@ -1,11 +1,9 @@
 -- What a server's console knows of the diversions of its partitions.
 use Rattle.std.specs.Prelude.{◌≡◌, ◌^◌, ℕ, List, [], ◌∷◌, length, Option, Some, None, MatchOption, slice_get}
-use Rattle.rw_gate.specs.Views.{GateId}
-use Rattle.vnode_core.specs.Plans.{View}
 use Rattle.handoff.specs.declared.copying.Copied.{Copied as CopyBack}
 use Rattle.handoff.specs.declared.gates.Fallback.{Fallback}
 use Rattle.handoff.specs.Joined.{CopyInTurn, keys_copied}
-use Rattle.handoff.specs.Partitions.{AreOfNewRun, HandoffView, IsDiverted}
+use Rattle.handoff.specs.Partitions.{AreOfNewRun, GateId, HandoffView, IsDiverted, View}
 use Rattle.handoff.specs.Running.{Diversion, HaveReturned, counted_here, last_fallback}
 use Rattle.handoff_tracks.specs.declared.track.Copies.{Copies}
 use Rattle.handoff_tracks.specs.declared.track.LastReturn.{LastReturn}

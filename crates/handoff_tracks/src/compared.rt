@@ -6,9 +6,7 @@ ghost use Rattle.handoff.specs.Running.{commands_in};
 ghost use Rattle.handoff_tracks.specs.Compared.{AreAll, CopiesGates, EndsBehind, Follows, HaveSameGates, IsBehind, KeepsGates};
 
 use crate::track::{Copies, LastReturn};
-use handoff::{Copied, Returned, Start};
-use rw_gate::Pass;
-use vnode_core::{Tally, Vnode};
+use handoff::{Copied, Pass, Returned, Start, Tally, Vnode};
 
 /// Whether a call began behind all that another had seen, and saw no less than that one.
 pub(crate) fn is_behind(first: &Copied, next: &Copied) -> bool

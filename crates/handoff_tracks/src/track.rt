@@ -1,12 +1,10 @@
 //! What is known of a partition's diversions.
 
 ghost use Rattle.std.specs.Prelude.{◌≡◌, ◌++◌, ◌∷◌, [], ℕ, List, Some, IfSome, MatchOption, slice_get};
-ghost use Rattle.rw_gate.specs.Views.{GateId};
-ghost use Rattle.vnode_core.specs.Plans.{View};
 ghost use Rattle.handoff.specs.declared.copying.Copied.{Copied as CopyBack};
 ghost use Rattle.handoff.specs.declared.gates.Fallback.{Fallback as FallbackView};
 ghost use Rattle.handoff.specs.Copying.{CopiesBack, IsCopiedBack};
-ghost use Rattle.handoff.specs.Partitions.{HandoffView, IsDiverted};
+ghost use Rattle.handoff.specs.Partitions.{GateId, HandoffView, IsDiverted, View};
 ghost use Rattle.handoff.specs.Returning.{HasReturned};
 ghost use Rattle.handoff_tracks.specs.Compared.{CanCopy, CanEnd, CopiesGates, HaveSameGates, IsBehind, IsReturnOf, KeepsGates, returned_by, returned_of};
 ghost use Rattle.handoff_tracks.specs.Tracks.{IsTrack, WereMade};

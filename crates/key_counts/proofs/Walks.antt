@@ -6,12 +6,9 @@ use Rattle.std.proofs.lemmas.List.Sums.{sum_by-cons}
 use Rattle.riak_msgs.specs.declared.Key.{Key}
 use Rattle.riak_msgs.specs.Contents.{Content}
 use Rattle.riak_msgs.specs.KeyOrder.{key_cmp}
-use Rattle.clock_store.specs.Behind.{next_entry}
-use Rattle.clock_store.specs.Keys.{Keys}
-use Rattle.vnode_machine.specs.Machine.{State, Stored}
-use Rattle.vnode_machine.specs.Sound.{IsSound}
-use Rattle.vnode_core.specs.Left.{keys_behind}
-use Rattle.vnode_core.proofs.Lefts.{behind-last, behind-next, behind-none}
+use Rattle.vnode_core.specs.Left.{Keys, State, Stored, keys_behind}
+use Rattle.vnode_core.specs.Vnodes.{IsSound}
+use Rattle.vnode_core.proofs.Lefts.{next_entry, behind-last, behind-next, behind-none}
 use Rattle.key_counts.specs.declared.counts.KeyCounts.{KeyCounts}
 use Rattle.key_counts.specs.Stored.{bytes_of, counts_in, counts_of, is_dead, one_if, one_key, siblings_of}
 use Rattle.key_counts.specs.Sums.{capped, no_counts, plus}

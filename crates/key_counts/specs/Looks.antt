@@ -1,9 +1,8 @@
 -- What a look at a vnode counts.
 use Rattle.std.specs.Prelude.{◌≡◌}
 use Rattle.riak_msgs.specs.Contents.{Content}
-use Rattle.vnode_machine.specs.Machine.{State}
-use Rattle.rw_gate.specs.Views.{GateId}
-use Rattle.vnode_core.specs.Plans.{View}
+use Rattle.vnode_core.specs.Left.{State}
+use Rattle.handoff.specs.Partitions.{GateId, View}
 use Rattle.handoff.specs.Sights.{Sight, ShowsState}
 use Rattle.key_counts.specs.declared.counts.KeyCounts.{KeyCounts}
 use Rattle.key_counts.specs.declared.looks.Counted.{Counted}

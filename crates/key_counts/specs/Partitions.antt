@@ -1,10 +1,8 @@
 -- What the vnodes of a hand-off's partitions store.
 use Rattle.std.specs.Prelude.{◌≡◌, ◌^◌, ℕ, List, length, map, Option, Some, None, slice_get}
 use Rattle.std.specs.Option.{option_map_or}
-use Rattle.rw_gate.specs.Views.{GateId}
-use Rattle.vnode_core.specs.Plans.{View}
 use Rattle.handoff.specs.declared.gates.Fallback.{Fallback}
-use Rattle.handoff.specs.Partitions.{HandoffView}
+use Rattle.handoff.specs.Partitions.{GateId, HandoffView, View}
 use Rattle.key_counts.specs.declared.counts.KeyCounts.{KeyCounts}
 use Rattle.key_counts.specs.declared.looks.Counted.{Counted}
 use Rattle.key_counts.specs.declared.partitions.PartitionCounts.{PartitionCounts}

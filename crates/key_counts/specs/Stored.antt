@@ -3,8 +3,7 @@ use Rattle.std.specs.Prelude.{Bool, not, ℕ, length, filter, Option, is_some, i
 use Rattle.std.specs.Option.{option_map_or}
 use Rattle.std.specs.List.{list_any, sum_by}
 use Rattle.riak_msgs.specs.Contents.{Content}
-use Rattle.clock_store.specs.Keys.{Keys}
-use Rattle.vnode_machine.specs.Machine.{State, Stored}
+use Rattle.vnode_core.specs.Left.{Keys, State, Stored}
 use Rattle.key_counts.specs.declared.counts.KeyCounts.{KeyCounts}
 use Rattle.key_counts.specs.Sums.{capped}
 

@@ -1,16 +1,15 @@
 //! How much a vnode stores, counted key by key.
 
 ghost use Rattle.std.specs.Prelude.{◌≡◌, ◌-◌, ◌^◌, min, IfOk};
-ghost use Rattle.clock_store.specs.Keys.{stored_of};
-ghost use Rattle.vnode_machine.specs.Sound.{IsSound};
+ghost use Rattle.vnode_core.specs.Left.{stored_of};
+ghost use Rattle.vnode_core.specs.Vnodes.{IsSound};
 ghost use Rattle.key_counts.specs.Sums.{capped, no_counts, plus};
 ghost use Rattle.key_counts.specs.Stored.{bytes_of, counts_in, is_dead, one_if, one_key};
 ghost use Rattle.key_counts.specs.Stored.{siblings_of, value_len};
 
-use clock_store::{StoredClock, given_parts};
 use riak_msgs::{Content, Key};
 use std::alloc::{AllocError, Global};
-use vnode_core::Vnode;
+use vnode_core::{StoredClock, Vnode, given_parts};
 
 /// How much is stored. Each number stops at 18,446,744,073,709,551,615.
 #[derive(Clone, Copy, Drop, PartialEq, Eq)]

@@ -5,10 +5,9 @@ ghost use Rattle.handoff.specs.Sights.{IsOfVnode};
 ghost use Rattle.key_counts.specs.Looks.{Shows};
 
 use crate::counts::{KeyCounts, count_keys};
-use rw_gate::{Gate, Pass, ReadRight};
+use handoff::{Gate, Pass, ReadRight, Vnode};
 use std::alloc::{AllocError, Global};
 use std::sync::Wait;
-use vnode_core::Vnode;
 
 /// What a vnode stored at one look.
 pub struct Counted {

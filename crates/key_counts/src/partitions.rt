@@ -8,11 +8,9 @@ ghost use Rattle.key_counts.specs.Sums.{capped, plus};
 
 use crate::counts::KeyCounts;
 use crate::looks::{Counted, count_at};
-use handoff::Handoff;
-use rw_gate::Gate;
+use handoff::{Gate, Handoff, Vnode};
 use std::alloc::{AllocError, Global};
 use std::sync::Wait;
-use vnode_core::Vnode;
 
 /// What the vnodes of a partition store.
 pub struct PartitionCounts {

@@ -2,9 +2,8 @@
 ghost use Rattle.std.specs.Prelude.{◌≤◌, IfSome};
 ghost use Rattle.node_commands.specs.Runs.{IsNewRun};
 
-use gate_node::Shared;
-use pb_frame::MAX_READS;
-use ring_map::Ring;
+use gate_node::{Ring, Shared};
+use node_session::MAX_READS;
 use std::alloc::Global;
 
 /// The gates of a new run, whose sessions make 4,294,967,296 reads at most. Refused where memory is.

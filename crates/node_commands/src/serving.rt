@@ -5,8 +5,8 @@ ghost use Rattle.node_commands.specs.Runs.{AreServed, AreConnectionsServed};
 use crate::fault::{ServeFault, setup_fault};
 use crate::gates::new_shared;
 use crate::lines::{conclude, write_address};
+use gate_node::Ring;
 use log::{Log, info, warn};
-use ring_map::Ring;
 use socket_streams::{
     Arrivals, Limits, ReplyHalf, RequestHalf, RunWaits, Stop, new_posts, new_run_waits,
 };

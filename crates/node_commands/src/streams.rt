@@ -5,9 +5,8 @@ ghost use Rattle.std.specs.Io.KnownBytes.{IsAtEnd};
 ghost use Rattle.node_session.specs.Session.{Given, IsTooManyReads, MadeReads};
 ghost use Rattle.node_session.specs.Pipes.{PipeEnds, PipeStops, IsNotBegun};
 
-use node_session::{Ended, PlainNode, SessionFault, serve};
-use pb_frame::MAX_READS;
-use ring_map::Ring;
+use gate_node::Ring;
+use node_session::{Ended, MAX_READS, PlainNode, SessionFault, serve};
 use std::alloc::Global;
 use std::io::{Read, Write};
 

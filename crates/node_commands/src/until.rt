@@ -8,9 +8,8 @@ use crate::fault::{ServeFault, setup_fault};
 use crate::gates::new_shared;
 use crate::lines::{announce, conclude};
 use crate::serving::serve_fault;
-use gate_node::{Open, Passes, RunTallies, Shared, tallies_of};
+use gate_node::{Open, Passes, Ring, RunTallies, Shared, tallies_of};
 use log::Log;
-use ring_map::Ring;
 use session_pool::{NoPause, Served, serve};
 use socket_streams::{
     Arrivals, Limits, LogSink, ReplyHalf, RequestHalf, RunWaits, Sessions, Stop, Waiting,

@@ -6,7 +6,7 @@ use Rattle.riak_msgs.specs.declared.Key.{Key}
 use Rattle.riak_msgs.specs.Contents.{Content}
 use Rattle.riak_msgs.specs.declared.Reply.{Reply}
 use Rattle.sibling_register.specs.Answers.{RegisterAsk}
-use Rattle.actor_epoch.specs.Given.{Context}
+use Rattle.vnode_machine.specs.Asks.{Context}
 use Rattle.vnode_machine.specs.Machine.{State}
 use Rattle.vnode_machine.specs.Replay.{History, IsAfter, IsWithinLimits}
 use Rattle.vnode_machine.specs.Registers.{key_of}

@@ -10,10 +10,9 @@ use Rattle.riak_msgs.specs.declared.Request.TheVariants as requests
 use Rattle.riak_msgs.specs.declared.Reply.{Reply}
 use Rattle.sibling_register.specs.Answers.{RegisterAsk, AskGet, AskPut, AskDel}
 use Rattle.sibling_register.specs.Refusals.{no_memory}
-use Rattle.actor_epoch.specs.Given.{Context}
 use Rattle.vnode_machine.specs.Machine.{State, opening}
 use Rattle.vnode_machine.specs.Replay.{History, IsAfter}
-use Rattle.vnode_machine.specs.Asks.{get_command, put_command, del_command}
+use Rattle.vnode_machine.specs.Asks.{Context, get_command, put_command, del_command}
 use Rattle.vnode_machine.specs.Step.{Response, MachineOutcome, Refused, Answered, Accepted, outcome}
 use Rattle.vnode_machine.specs.Registers.{key_of}
 use Rattle.vnode_machine.specs.Dead.{swept}

@@ -7,11 +7,10 @@ use Rattle.riak_msgs.specs.declared.Request.{Request}
 use Rattle.riak_msgs.specs.declared.Reply.{Reply}
 use Rattle.riak_msgs.specs.declared.Reply.TheVariants as replies
 use Rattle.sibling_register.specs.Answers.{RegisterAsk, AskReap}
-use Rattle.actor_epoch.specs.Given.{Context}
 use Rattle.vnode_machine.specs.Step.{Response}
 use Rattle.vnode_machine.specs.Registers.{key_of}
 use Rattle.vnode_machine.specs.Runs.{Turn, TakesEach}
-use Rattle.vnode_machine.specs.Asks.{request_ask}
+use Rattle.vnode_machine.specs.Asks.{Context, request_ask}
 use Rattle.node_session.specs.PlainStep.{reply_of}
 
 -- a turn by which a node forgets a key

@@ -1,6 +1,6 @@
 -- The law of sessions: what is answered by a plain node is what the sibling register answers.
 use Rattle.std.specs.Prelude.{◌<◌, ◌≤◌, ◌^◌, List, ℕ, Option}
-use Rattle.pb_frame.specs.Message.{CodedMessage}
+pub use Rattle.pb_frame.specs.Message.{CodedMessage}
 use Rattle.riak_msgs.specs.declared.Request.{Request}
 use Rattle.riak_msgs.specs.declared.Reply.{Reply}
 use Rattle.node_session.specs.declared.fault.SessionFault.{SessionFault}

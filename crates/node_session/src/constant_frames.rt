@@ -8,7 +8,7 @@ ghost use Rattle.node_session.specs.Answers.{reply_frame, IsFramed, IsNoError};
 use riak_msgs::{GetReply, PutReply, Reply, Text};
 
 /// The frame of an error reply. It takes no memory, so that `no memory` can always be answered.
-#[tactic(auto, unfolding(pb_frame::specs::Message::frame, wire_varint::specs::Varint::encoding, wire_varint::specs::Varint::encoded))]
+#[tactic(auto, unfolding(pb_frame::specs::Message::frame, riak_msgs::specs::Encoding::varint_encoding, riak_msgs::specs::Encoding::varint_encoded))]
 pub(crate) fn error_frame(text: Text) -> &'static [u8]
     ensures frame { result.now ≡ reply_frame (Error text) }
     ensures framed { IsFramed (Error text) }

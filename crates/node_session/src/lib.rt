@@ -59,6 +59,7 @@ pub use fault::SessionFault;
 pub use framed_reply::{FramedReply, GhostReply, put_error, put_reply, put_stored};
 pub use laws::{plain_node_is_register, read_limit};
 pub use node::Node;
+pub use pb_frame::MAX_READS;
 pub use plain_node::{NodeFault, PlainNode};
 pub use reply_frame::ReplyFrame;
 pub use report::{exit_status, write_fault};

@@ -6,9 +6,8 @@ ghost use Rattle.pb_frame.specs.Message.{frame};
 ghost use Rattle.node_session.specs.Answers.{message_fault_text, frame_fault_text, IsUnframed};
 
 use crate::scratch::Scratch;
-use pb_fields::{Message, encoded_len};
 use pb_frame::{FrameFault, HEADER_LEN, header};
-use riak_msgs::{MsgFault, Text};
+use riak_msgs::{Message, MsgFault, Text, encoded_len};
 
 /// The text of the error for a message that is no request.
 pub(crate) fn message_fault_text(fault: MsgFault) -> Text

@@ -9,10 +9,9 @@ use Rattle.actor_epoch.specs.Given.{Context}
 use Rattle.vnode_machine.specs.Machine.{State, opening, apply_operation}
 use Rattle.vnode_machine.specs.Replay.{AcceptsEvent, IsAfter}
 use Rattle.vnode_machine.specs.Registers.{key_of, context_in_ask}
-use Rattle.rw_gate.specs.Machines.{MachineRun}
 use Rattle.vnode_core.specs.declared.event.VnodeEvent.{VnodeEvent}
 use Rattle.vnode_core.specs.declared.entry.Entry.TheVariants.{Command as Commanded}
-use Rattle.vnode_core.specs.Events.{all_commands, Makes, event_command, event_deed, event_response, register_event, history_after}
+use Rattle.vnode_core.specs.Events.{MachineRun, all_commands, Makes, event_command, event_deed, event_response, register_event, history_after}
 use Rattle.copy_laws.specs.Copies.{Command, commands_of}
 use Rattle.copy_laws.specs.Joining.{Log}
 use Rattle.node_steps.specs.World.{Word, Open, Taken, PlannedCommand, Phase, Idle, Asked, Holding, Done, Brought, SiteVnode, Worker, World, fresh_vnode, fresh_worker, CommandsAlone, id_of, route, history_at, seen_at, brought_by, history_of}

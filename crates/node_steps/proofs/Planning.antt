@@ -7,7 +7,7 @@ use Rattle.riak_msgs.specs.declared.Key.{Key}
 use Rattle.sibling_register.specs.History.{Operation, Write, Tombstone, Reap as Forget}
 use Rattle.sibling_register.specs.Answers.{RegisterAsk as Command, AskGet, AskPut, AskDel, AskReap}
 use Rattle.actor_epoch.specs.Given.{Context}
-use Rattle.clock_store.specs.declared.store.Reaped.TheVariants.{Gone, Kept, Absent}
+use Rattle.vnode_core.specs.Reaping.{Gone, Kept, Absent}
 use Rattle.vnode_machine.specs.Asks.{put_command, del_command}
 use Rattle.vnode_machine.specs.Machine.{State, is_held, holds_dead, has_value, put_check, del_check, apply_operation}
 use Rattle.vnode_machine.specs.Replies.{put_reply}

@@ -3,8 +3,8 @@ use Rattle.std.specs.Prelude.{◌≡◌, ℕ, Option, Some, None, option_map}
 use Rattle.riak_msgs.specs.declared.Key.{Key}
 use Rattle.riak_msgs.specs.Contents.{Content}
 use Rattle.riak_msgs.specs.declared.Request.{Request}
-use Rattle.sibling_register.specs.Answers.{RegisterAsk, AskReap}
-use Rattle.actor_epoch.specs.Given.{Context}
+pub use Rattle.sibling_register.specs.Answers.{RegisterAsk, AskGet, AskPut, AskDel, AskReap}
+pub use Rattle.actor_epoch.specs.Given.{Context}
 pub use Rattle.vnode_machine.specs.Asks.{request_ask}
 use Rattle.node_steps.specs.declared.call.Call.{Call}
 use Rattle.node_steps.specs.declared.step.Step.{Step as RunStep}

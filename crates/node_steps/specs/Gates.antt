@@ -2,9 +2,8 @@
 use Rattle.std.specs.Prelude.{◌≡◌, ◌<◌, ◌≤◌, ℕ, List, []}
 use Rattle.riak_msgs.specs.Contents.{Content}
 use Rattle.vnode_machine.specs.Machine.{State, opening}
-use Rattle.rw_gate.specs.Machines.{MachineRun}
 use Rattle.vnode_core.specs.declared.event.VnodeEvent.{VnodeEvent}
-use Rattle.vnode_core.specs.Events.{all_commands, Makes, history_after}
+use Rattle.vnode_core.specs.Events.{MachineRun, all_commands, Makes, history_after}
 use Rattle.node_steps.specs.World.{history_at, id_of}
 use Rattle.node_steps.specs.Steps.{Step}
 use Rattle.node_steps.specs.Schedules.{Start, world_after}

@@ -9,7 +9,7 @@ use Rattle.vnode_machine.specs.Machine.{State}
 use Rattle.vnode_machine.specs.Replies.{get_reply}
 use Rattle.vnode_machine.specs.Sound.{IsSound}
 use Rattle.vnode_machine.specs.Step.{Response, GetDone, PutDone, DelDone, ReapDone, ReapKept, MachineOutcome, Refused, Answered, Accepted, outcome}
-use Rattle.clock_store.specs.declared.store.Reaped.TheVariants.{Gone, Kept, Absent}
+use Rattle.vnode_core.specs.Reaping.{Gone, Kept, Absent}
 use Rattle.vnode_core.specs.declared.ask.Ask.{Ask}
 use Rattle.vnode_core.specs.declared.ask.Ask.TheVariants.{Put, Del, Reap, ReapFirst, Copy, Close}
 use Rattle.vnode_core.specs.declared.ask.Answer.{Answer}

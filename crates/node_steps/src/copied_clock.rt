@@ -3,12 +3,11 @@
 ghost use Rattle.std.specs.Prelude.{◌≡◌, IfOk};
 ghost use Rattle.vnode_machine.specs.Copying.{IsStoredClock};
 
-use clock_store::{OwnActor, StoredClock};
 use dvv_set::Clock;
 use riak_msgs::Content;
 use std::alloc::{AllocError, Global};
 use std::marker::Model;
-use vnode_core::CloneSibling;
+use vnode_core::{CloneSibling, OwnActor, StoredClock};
 
 /// The clock that a key had at a fallback, as its copier keeps it. Contracts see what it knows and has live.
 pub(crate) struct CopiedClock {

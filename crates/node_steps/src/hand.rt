@@ -13,12 +13,11 @@ use crate::call::Call;
 use crate::copied_clock::CopiedClock;
 use crate::fault::StepFault;
 use crate::outcome::{Outcome, answered};
-use clock_store::KeyRef;
 use ghost_state::GhostList;
 use riak_msgs::{GetAsk, Key, Reply, Text};
 use std::alloc::{AllocError, Global};
 use std::marker::Model;
-use vnode_core::{Ask, Change, KeyCopy, Plan, Refusal, Vnode, count_left};
+use vnode_core::{Ask, Change, KeyCopy, KeyRef, Plan, Refusal, Vnode, count_left};
 
 /// A vnode of an id, and the change that was planned at a look. Contracts see its state and the plan.
 pub(crate) struct Hand {

@@ -1,6 +1,6 @@
 -- The one encoding of fields: the shortest varints, and what is absent is not encoded.
 use Rattle.std.specs.Prelude.{◌≡◌, ℕ, ◌+◌, ◌*◌, ◌^◌, ◌<◌, Bool, true, false, List, [], ◌∷◌, ◌++◌, length, Option, Some, None}
-use Rattle.wire_varint.specs.Varint.{encoding as varint_encoding}
+unfoldable pub use Rattle.wire_varint.specs.Varint.{encoding as varint_encoding, encoded as varint_encoded}
 use Rattle.pb_fields.specs.Field.{WireValue, varint, eight_bytes, byte_string, four_bytes, WireField, wire_type, IsNumber}
 
 -- the bytes of a value, each varint in its shortest form

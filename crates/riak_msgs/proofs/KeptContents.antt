@@ -2,7 +2,7 @@
 use Rattle.std.proofs.Common.{◌≡◌, ℕ, ◌+◌, ◌-◌, ◌^◌, ◌<◌, List, [], ◌∷◌, ◌++◌, length, take, drop, length-append, Some, ap, sym, subst, ◌∙◌, arith}
 use Rattle.std.proofs.lemmas.List.{take_rest}
 use Rattle.std.proofs.Math.Seq.{drop-append_seam}
-use Rattle.wire_varint.specs.Varint as varint
+use Rattle.pb_fields.specs.Encoding as fields
 use Rattle.pb_fields.specs.Field.{BeginsWithField, WireField}
 use Rattle.pb_fields.specs.Encoding.{bytes_field}
 use Rattle.pb_fields.proofs.EncodedParts.{bytes_field-shorter, string_at}
@@ -48,7 +48,7 @@ behind-drop c encoding n is counted =
 -- the same behind an empty value
 pub content_message-bare : (c : Content) (head bs behind : List ℕ) → head ≡ 10 ∷ 0 ∷ [] → behind ≡ behind_value c → bs ≡ head ++ behind →
     bs ≡ content_message (bare c)
-unfolding varint.encoding varint.encoded
+unfolding fields.varint_encoding fields.varint_encoded
 content_message-bare c head bs behind empty last is =
     is ∙ ap (λ h. h ++ behind) empty ∙ ap (λ b. 10 ∷ 0 ∷ b) last ∙ sym (content_message-value (bare c))
 

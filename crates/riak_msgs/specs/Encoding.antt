@@ -1,6 +1,7 @@
 -- The one encoding of messages: fields by rising number, and what is absent is not encoded.
 use Rattle.std.specs.Prelude.{ℕ, List, [], ◌∷◌, ◌++◌}
-use Rattle.pb_fields.specs.Encoding.{bytes_field, bool_field}
+pub use Rattle.pb_fields.specs.Encoding.{bytes_field, bool_field, repeated_field}
+unfoldable pub use Rattle.pb_fields.specs.Encoding.{varint_encoding, varint_encoded}
 pub use Rattle.riak_msgs.specs.ContentEncoding.{link_message, pair_message, content_message}
 use Rattle.riak_msgs.specs.declared.shown.Shown.{Shown}
 

@@ -81,6 +81,7 @@ pub use key::Key;
 pub use laws::{keys_are_ordered, messages_say_one};
 pub use link::Link;
 pub use pair::Pair;
+pub use pb_fields::{Message, Output, encode_message, encode_repeated, encoded_len};
 pub use put::{PutAsk, PutReply};
 pub use reply::{Reply, write_reply};
 pub use reply_laws::replies_say_one;

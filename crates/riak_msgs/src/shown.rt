@@ -82,7 +82,7 @@ fn encode_shown<O: Output>(out: &mut O, content: &Content, is_bare: bool) -> Res
 
 /// Encodes a tombstone as a reply shows it.
 #[inline(always)]
-#[tactic(auto, unfolding(wire_varint::specs::Varint::encoding, wire_varint::specs::Varint::encoded))]
+#[tactic(auto, unfolding(pb_fields::specs::Encoding::varint_encoding, pb_fields::specs::Encoding::varint_encoded))]
 fn encode_tombstone<O: Output>(out: &mut O) -> Result<(), AllocError>
     ensures { OnOk result (O.appends out.old (shown_message tombstone) out.new) }
 {

@@ -117,7 +117,7 @@ pub(crate) fn encode_content<O: Output>(
 
 /// Encodes an empty value without details.
 #[inline(always)]
-#[tactic(auto, unfolding(wire_varint::specs::Varint::encoding, wire_varint::specs::Varint::encoded))]
+#[tactic(auto, unfolding(pb_fields::specs::Encoding::varint_encoding, pb_fields::specs::Encoding::varint_encoded))]
 fn encode_empty<O: Output>(out: &mut O) -> Result<(), AllocError>
     ensures { OnOk result (O.appends out.old (content_message no_content) out.new) }
 {

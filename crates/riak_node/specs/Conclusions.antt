@@ -1,5 +1,5 @@
 -- The line and the status that each command ends with.
-use Rattle.std.specs.Prelude.{◌==◌, ◌++◌, ℕ, List, [], if◌then◌else◌, codes, decimal, Result, Ok, Err}
+use Rattle.std.specs.Prelude.{◌==◌, ◌++◌, ℕ, List, [], if◌then◌else◌, codes, decimal, Ok, Err}
 use Rattle.node_session.specs.Report.{exit_status, fault_line}
 use Rattle.node_session.specs.declared.ended.Ended.{Ended}
 use Rattle.node_commands.specs.Lines.{serve_fault_text}

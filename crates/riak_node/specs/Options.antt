@@ -6,7 +6,7 @@ use Rattle.std.specs.Net.Addr.{ipv4_octets}
 use Rattle.std.specs.declared.net.ip_addr.IpAddr.{IpAddr}
 use Rattle.std.specs.declared.net.ip_addr.IpAddr.TheVariants.{V4, V6}
 use Rattle.std.specs.declared.net.parser.AddrParseError.{AddrParseError}
-use Rattle.clap.specs.Matches.{found_of, matched_of, one_text, subcommand_name_of, ReadsOne}
+use Rattle.clap.specs.Matches.{matched_of, one_text, subcommand_name_of, ReadsOne}
 use Rattle.clap.specs.Walk.{rows_of}
 use Rattle.clap.specs.Simple.{subcommand_rows_of}
 use Rattle.clap.specs.declared.parser.matches.ArgMatches.{ArgMatches}

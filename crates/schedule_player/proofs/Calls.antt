@@ -9,13 +9,10 @@ use Rattle.riak_msgs.specs.Contents.{Content}
 use Rattle.riak_msgs.specs.declared.Request.{Request}
 use Rattle.riak_msgs.specs.declared.Request.TheVariants as requests
 use Rattle.riak_msgs.specs.declared.reply.Reply.{Reply}
-use Rattle.sibling_register.specs.Answers.{RegisterAsk}
-use Rattle.actor_epoch.specs.Given.{Context}
-use Rattle.vnode_machine.specs.Asks.{request_ask}
 use Rattle.schedule_text.specs.Compared.{Compared, after_call, after_reply}
 use Rattle.node_steps.specs.declared.step.Step.{Step as RunStep}
 use Rattle.node_steps.specs.declared.outcome.Outcome.TheVariants as outcomes
-use Rattle.node_steps.specs.Asked.{asks_by}
+use Rattle.node_steps.specs.Asked.{Context, RegisterAsk, asks_by, request_ask}
 use Rattle.node_steps.proofs.Erasing.{map-set}
 use Rattle.schedule_player.specs.Calls.{call_in, call_of}
 use Rattle.schedule_player.specs.Heard.{Heard, Calls, after_act, asked_by, last_call, replied, with_call}

@@ -4,14 +4,12 @@ use Rattle.std.specs.Prelude.{Option, Some, None}
 use Rattle.std.specs.Option.{option_map_or}
 use Rattle.riak_msgs.specs.Contents.{Content}
 use Rattle.riak_msgs.specs.declared.reply.Reply.{Reply}
-use Rattle.sibling_register.specs.Answers.{RegisterAsk, AskGet, AskPut, AskDel, AskReap}
-use Rattle.actor_epoch.specs.Given.{Context}
-use Rattle.vnode_machine.specs.Registers.{key_of}
+use Rattle.node_steps.specs.Asked.{Context, RegisterAsk, AskGet, AskPut, AskDel, AskReap}
 use Rattle.schedule_text.specs.declared.verdict.Verdict.{Verdict}
 use Rattle.schedule_text.specs.declared.verdict.Verdict.TheVariants.{NotCompared}
 use Rattle.schedule_text.specs.PlainAnswers.{command_by, plain_of, told_in, history_after, is_due}
 use Rattle.schedule_text.specs.Verdicts.{verdict_after, verdict_line}
-use Rattle.schedule_text.specs.Compared.{Compared, given_in, position_given, is_unknown, is_asked, within, not_compared, after_call, after_reply_at, after_reply}
+use Rattle.schedule_text.specs.Compared.{Compared, key_of, given_in, position_given, is_unknown, is_asked, within, not_compared, after_call, after_reply_at, after_reply}
 use Rattle.node_steps.specs.declared.outcome.Outcome.{Outcome as Returned}
 use Rattle.node_steps.specs.declared.outcome.Outcome.TheVariants as outcomes
 use Rattle.node_steps.specs.Returned.{returned}

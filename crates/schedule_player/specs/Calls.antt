@@ -2,11 +2,9 @@
 use Rattle.std.specs.Prelude.{◌≡◌, ℕ, Option, Some, None}
 use Rattle.std.specs.Global.{Box}
 use Rattle.riak_msgs.specs.Contents.{Content}
-use Rattle.sibling_register.specs.Answers.{RegisterAsk}
-use Rattle.actor_epoch.specs.Given.{Context}
 use Rattle.node_steps.specs.declared.step.Step.{Step as RunStep}
 use Rattle.node_steps.specs.declared.outcome.Outcome.{Outcome as Returned}
-use Rattle.node_steps.specs.Asked.{step_of}
+use Rattle.node_steps.specs.Asked.{Context, RegisterAsk, step_of}
 use Rattle.node_steps.specs.Steps.{Step}
 use Rattle.schedule_player.specs.declared.asking.Note.{Note}
 use Rattle.schedule_player.specs.declared.asking.Note.TheVariants as notes

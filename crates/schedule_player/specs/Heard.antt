@@ -4,8 +4,7 @@ use Rattle.std.specs.Prelude.{◌≡◌, ◌⊎◌, ℕ, Bool, true, false, ◌+
 use Rattle.std.specs.Option.{option_map_or}
 use Rattle.riak_msgs.specs.Contents.{Content}
 use Rattle.riak_msgs.specs.declared.reply.Reply.{Reply}
-use Rattle.sibling_register.specs.Answers.{RegisterAsk, AskReap}
-use Rattle.actor_epoch.specs.Given.{Context}
+use Rattle.node_steps.specs.Asked.{Context, RegisterAsk, AskReap}
 use Rattle.schedule_text.specs.Compared.{Compared, nothing_compared, not_compared, after_call, after_reply, after_reap}
 use Rattle.schedule_text.specs.Verdicts.{verdict_line}
 use Rattle.node_steps.specs.declared.outcome.Outcome.{Outcome as Returned}

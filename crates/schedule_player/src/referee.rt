@@ -3,8 +3,7 @@
 ghost use Rattle.std.specs.Prelude.{◌≡◌, ◌-◌, IfOk, OnOk, Some, map, option_and_then, option_copied};
 ghost use Rattle.std.specs.Option.{option_map_or};
 ghost use Rattle.riak_msgs.specs.Contents.{Content};
-ghost use Rattle.actor_epoch.specs.Given.{Context};
-ghost use Rattle.sibling_register.specs.Answers.{RegisterAsk};
+ghost use Rattle.node_steps.specs.Asked.{Context, RegisterAsk};
 ghost use Rattle.node_steps.specs.declared.outcome.Outcome.TheVariants.{Done};
 ghost use Rattle.schedule_text.specs.Compared.{after_call};
 ghost use Rattle.schedule_player.specs.Calls.{after_note, call_in, call_of};

@@ -17,7 +17,7 @@ use Rattle.schedule_text.specs.Compared.{is_of, position_of}
 use Rattle.schedule_text.specs.ShownIndex.{digest_of, entry_digest, places_from, position_among, places_at, AreIndexed}
 use Rattle.actor_epoch.proofs.Rising.{and_first as and_left, and_second as and_right}
 use Rattle.std.proofs.lemmas.Bool.{eqb-true as same_number}
-use Rattle.dvv_set.proofs.Live.{dot_eq-same as same_dot}
+use Rattle.vnode_machine.proofs.Sights.{dot_eq-same as same_dot}
 use Rattle.vnode_machine.proofs.Tests.{none-from}
 
 same_pairs : (a b : List Dot) → pointwise dot_eq a b ≡ true → a ≡ b

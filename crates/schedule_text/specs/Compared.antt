@@ -15,7 +15,7 @@ use Rattle.actor_epoch.specs.declared.dot.Dot.{Dot}
 use Rattle.actor_epoch.specs.Dots.{dot_eq}
 use Rattle.actor_epoch.specs.Given.{Context, context_of, pairs_read}
 use Rattle.vnode_machine.specs.Asks.{request_ask}
-use Rattle.vnode_machine.specs.Registers.{key_of}
+pub use Rattle.vnode_machine.specs.Registers.{key_of}
 use Rattle.schedule_text.specs.declared.shown_context.ShownContext.{ShownContext}
 use Rattle.schedule_text.specs.declared.verdict.Verdict.{Verdict}
 use Rattle.schedule_text.specs.declared.verdict.Verdict.TheVariants.{Equal, NotCompared}

@@ -2,7 +2,7 @@
 use Rattle.std.specs.Prelude.{◌≡◌, ℕ, List, [], ◌∷◌, Bool, false, Option, Some, None, map, nat_eq}
 use Rattle.std.specs.Option.{option_map_or, option_eq}
 use Rattle.std.specs.Str.{bytes_eq}
-use Rattle.pb_fields.specs.Encoding.{repeated_field}
+use Rattle.riak_msgs.specs.Encoding.{repeated_field}
 use Rattle.riak_msgs.specs.Contents.{Content, shown}
 use Rattle.riak_msgs.specs.Encoding.{shown_message}
 use Rattle.riak_msgs.specs.declared.Key.{Key}

@@ -2,15 +2,13 @@
 
 ghost use Rattle.std.specs.Prelude.{◌≡◌, IfOk, IfNone, IfSome, None, map, nat_eq, false, if◌then◌else◌};
 ghost use Rattle.std.specs.Option.{option_eq};
-ghost use Rattle.pb_fields.specs.Encoding.{repeated_field};
-ghost use Rattle.riak_msgs.specs.Encoding.{shown_message};
+ghost use Rattle.riak_msgs.specs.Encoding.{repeated_field, shown_message};
 ghost use Rattle.sibling_register.specs.Plain.{answer_of};
 ghost use Rattle.vnode_machine.specs.Asks.{request_ask};
 ghost use Rattle.schedule_text.specs.PlainAnswers.{are_due, is_due, plain_refusal, refusal_due, same_contents, sibling_shown};
 ghost use Rattle.schedule_text.specs.Compared.{AreOf, context_in, is_asked};
 
-use pb_fields::encode_repeated;
-use riak_msgs::{Content, ContextBytes, Key, Reply, Request, Shown, Text};
+use riak_msgs::{Content, ContextBytes, Key, Reply, Request, Shown, Text, encode_repeated};
 use sibling_register::{MATCH_FOUND, MODIFIED, NOT_FOUND, PlainRegister, TOO_MANY_SIBLINGS, Told};
 use std::alloc::{AllocError, Global};
 

@@ -1,7 +1,7 @@
 -- What each step of a node keeps, a session keeps, however far it has come, and however it ends.
 use Rattle.std.proofs.Common.{◌≡◌, ◌∙◌, ◌⊎◌, ℕ, List, [], ◌∷◌, ap, inl, inr}
 use Rattle.std.specs.Prelude.{Option, Result, Ok, Err}
-use Rattle.pb_frame.specs.Message.{CodedMessage}
+use Rattle.node_session.specs.SessionLaws.{CodedMessage}
 use Rattle.riak_msgs.specs.declared.fault.MsgFault.{MsgFault}
 use Rattle.riak_msgs.specs.declared.Request.{Request}
 use Rattle.riak_msgs.specs.declared.Reply.{Reply}

@@ -8,9 +8,7 @@ use Rattle.riak_msgs.specs.declared.Reply.{Reply}
 use Rattle.node_session.specs.Courses.{IsOverBy}
 use Rattle.node_session.specs.declared.ended.Ended.{Ended}
 use Rattle.node_session.specs.declared.fault.SessionFault.{SessionFault}
-use Rattle.handoff.specs.Partitions.{AreNone}
-use Rattle.handoff.specs.Partitions.{HandoffView}
-use Rattle.gate_node.specs.Gates.{Gates}
+use Rattle.gate_node.specs.Gates.{Gates, HandoffView, AreNone}
 use Rattle.gate_node.specs.GateStep.{NodeOverGates}
 use Rattle.gate_node.specs.OneHistory.{IsSeen}
 use Rattle.gate_node.specs.Passes.{Sights, ArePassesOf}

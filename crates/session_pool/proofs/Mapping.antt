@@ -1,7 +1,7 @@
 -- A session by one step is a session by another one, where each step of the one becomes a step of the other.
 use Rattle.std.proofs.Common.{◌≡◌, ℕ, List, [], ◌∷◌, Option, refl, sym, subst}
 use Rattle.std.specs.Prelude.{Result, Ok, Err}
-use Rattle.pb_frame.specs.Message.{CodedMessage}
+use Rattle.node_session.specs.SessionLaws.{CodedMessage}
 use Rattle.riak_msgs.specs.declared.Request.{Request}
 use Rattle.riak_msgs.specs.declared.Reply.{Reply}
 use Rattle.node_session.specs.Answers.{Answers, AnswersInTurn}

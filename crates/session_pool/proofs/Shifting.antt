@@ -5,7 +5,6 @@ use Rattle.riak_msgs.specs.declared.Request.{Request}
 use Rattle.riak_msgs.specs.declared.Request.TheVariants as requests
 use Rattle.riak_msgs.specs.declared.Reply.{Reply}
 use Rattle.riak_msgs.specs.declared.Text.{Text}
-use Rattle.vnode_core.specs.declared.ask.Ask.TheVariants as asks
 use Rattle.stats_book.specs.Counter.{Count, Counts, CountsReply, CountsAnswer}
 use Rattle.stats_book.specs.Counting.{both, raised, IsFull}
 use Rattle.stats_book.specs.declared.totals.Totals.{Totals}
@@ -154,5 +153,5 @@ module _ (before : Totals) where
   pub step_on : (old : NodeOverGates) (request : Request) (reply : Reply) (new : NodeOverGates) → GateNodeStep old request reply new → GateNodeStep (more old) request reply (more new)
   step_on old requests.Ping reply new h = (h.0, ap more h.1)
   step_on old (requests.Get get) reply new h = partition_on _ reply (asked.Gets get) (GetsOpen get) old new h
-  step_on old (requests.Put put) reply new h = partition_on _ reply (asked.Changes (asks.Put put)) (ChangesOpen (asks.Put put)) old new h
-  step_on old (requests.Del del) reply new h = partition_on _ reply (asked.Changes (asks.Del del)) (ChangesOpen (asks.Del del)) old new h
+  step_on old (requests.Put put) reply new h = partition_on _ reply (asked.Changes _) (ChangesOpen _) old new h
+  step_on old (requests.Del del) reply new h = partition_on _ reply (asked.Changes _) (ChangesOpen _) old new h

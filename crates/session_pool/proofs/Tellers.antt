@@ -3,7 +3,7 @@ use Rattle.std.proofs.Common.{◌≡◌, ◌∙◌, ◌+◌, ℕ, Bool, true, fa
 use Rattle.std.proofs.lemmas.List.{append-nil}
 use Rattle.std.specs.Prelude.{◌||◌}
 use Rattle.std.specs.List.{AllZip}
-use Rattle.rw_gate.proofs.Prefixes.{prefix_trans}
+use Rattle.gate_node.proofs.Seeing.{prefix_trans}
 use Rattle.job_pool.specs.Lists.{Every}
 use Rattle.job_pool.specs.declared.worker.NumberedEnd.{NumberedEnd}
 use Rattle.gate_node.specs.Asked.{Sight}

@@ -1,12 +1,10 @@
 -- What sessions of a run over partitions without fallbacks reply: at positions of legal histories of the sibling register.
 use Rattle.std.specs.Prelude.{◌≡◌, ℕ, Bool, true, false, List, [], ◌∷◌, Option}
-use Rattle.vnode_core.specs.declared.vnode.tally.Tally.{Tally}
-use Rattle.handoff.specs.Partitions.{AreNone, AreOfNewRun}
-use Rattle.gate_node.specs.Gates.{Gates}
+use Rattle.gate_node.specs.Gates.{Gates, AreNone, AreOfNewRun}
 use Rattle.gate_node.specs.OneHistory.{ShareHistories}
 use Rattle.gate_node.specs.Passes.{Sights, ArePassesOf}
 use Rattle.gate_node.specs.Plain.{AnswersAsRegister, AreLegal}
-use Rattle.gate_node.specs.Tallies.{GateHistory}
+use Rattle.gate_node.specs.Tallies.{GateHistory, Tally}
 use Rattle.session_pool.specs.Leaving.{IsEndOf}
 use Rattle.session_pool.specs.Suspending.{SuspendedView}
 use Rattle.session_pool.specs.Telling.{ToldSession, IsToldSession, with_passes}

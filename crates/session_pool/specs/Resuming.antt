@@ -2,11 +2,10 @@
 use Rattle.std.specs.Prelude.{◌≡◌, ℕ, false, List, [], ◌∷◌}
 use Rattle.riak_msgs.specs.declared.Request.{Request}
 use Rattle.riak_msgs.specs.declared.Reply.{Reply}
-use Rattle.handoff.specs.Partitions.{IsDiverted}
 use Rattle.stats_book.specs.Counter.{Count}
 use Rattle.stats_book.specs.Counting.{both, zeros}
 use Rattle.stats_book.specs.declared.totals.Totals.{Totals}
-use Rattle.gate_node.specs.Gates.{Gates, handoff_of}
+use Rattle.gate_node.specs.Gates.{Gates, IsDiverted, handoff_of}
 use Rattle.gate_node.specs.GateStep.{NodeOverGates, GateNodeStep}
 use Rattle.gate_node.specs.OneHistory.{StepIn, AnswersIn}
 use Rattle.gate_node.specs.Passes.{Sights, ArePassesOf}

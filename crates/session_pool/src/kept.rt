@@ -1,8 +1,7 @@
 //! What the workers of a run keep for themselves.
 ghost use Rattle.std.specs.Prelude.{◌≡◌, length, IfOk};
 
-use gate_node::{GateNode, PartitionCache, Reserve, Turnstile};
-use ring_map::Ring;
+use gate_node::{GateNode, PartitionCache, Reserve, Ring, Turnstile};
 use std::alloc::{AllocError, Global};
 use std::sync::ledger::Ledger;
 use std::sync::{Mutex, Wait};

@@ -1,7 +1,7 @@
 //! What holds of sessions that rest, and go on over later gates of their run.
 ghost use Rattle.std.specs.Prelude.{ℕ, List, Option, false};
 ghost use Rattle.std.specs.List.{AllZip};
-ghost use Rattle.pb_frame.specs.Message.{CodedMessage};
+ghost use Rattle.node_session.specs.SessionLaws.{CodedMessage};
 ghost use Rattle.riak_msgs.specs.declared.Reply.{Reply};
 ghost use Rattle.stats_book.specs.declared.totals.Totals.{Totals};
 ghost use Rattle.node_session.specs.Answers.{AnswersInTurn};

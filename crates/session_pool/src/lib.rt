@@ -56,6 +56,7 @@ pub use laws::{
     told_sessions_are_at_positions, told_sessions_are_legal,
 };
 pub use left::{EndedSession, Left};
+pub use node_session::{Ended, MAX_READ_LEN, SessionFault};
 pub use pause::{NoPause, Pause};
 pub use pool::serve;
 pub use rest::{Began, Rest};

@@ -4,7 +4,7 @@ use Rattle.std.specs.Prelude.{Option, Some, None, Result, Ok, Err}
 use Rattle.job_pool.specs.Giving.{Gave, GaveAll, GivesOnly}
 use Rattle.job_pool.specs.Lists.{Every, concat}
 use Rattle.job_pool.specs.declared.jobs.JobFault.{JobFault}
-use Rattle.gate_node.specs.Gates.{Gates}
+use Rattle.worker_pool.specs.Serving.{Gates}
 use Rattle.session_pool.specs.Suspending.{SuspendedView, CanGoOn}
 use Rattle.worker_pool.specs.declared.job.Job.{Job}
 use Rattle.socket_streams.specs.declared.halves.RequestHalf.{RequestHalf}

@@ -1,10 +1,8 @@
 -- What a listener gives as a source of jobs.
 use Rattle.std.specs.Prelude.{◌≡◌, ◌+◌, ℕ, Bool, false, [], Option, Some, None, Result, Ok, Err}
 use Rattle.job_pool.specs.declared.jobs.JobFault.{JobFault}
-use Rattle.gate_node.specs.Gates.{Gates}
-use Rattle.gate_node.specs.Passes.{AreUnused}
 use Rattle.worker_pool.specs.declared.job.Job.{Job}
-use Rattle.worker_pool.specs.Serving.{IsForGates}
+use Rattle.worker_pool.specs.Serving.{Gates, AreUnused, IsForGates}
 use Rattle.socket_streams.specs.declared.halves.RequestHalf.{RequestHalf}
 use Rattle.socket_streams.specs.declared.halves.ReplyHalf.{ReplyHalf}
 use Rattle.socket_streams.specs.Sending.{written}

@@ -2,7 +2,7 @@
 use Rattle.std.specs.Prelude.{◌≡◌, List, [], ◌∷◌, Option, Some, None, Result, Ok, Err, reverse}
 use Rattle.job_pool.specs.Lists.{concat}
 use Rattle.job_pool.specs.declared.jobs.JobFault.{JobFault}
-use Rattle.gate_node.specs.Gates.{Gates}
+use Rattle.worker_pool.specs.Serving.{Gates}
 use Rattle.session_pool.specs.Suspending.{SuspendedView, begun}
 use Rattle.worker_pool.specs.declared.job.Job.{Job}
 use Rattle.socket_streams.specs.declared.halves.RequestHalf.{RequestHalf}

@@ -1,6 +1,6 @@
 //! The connections of a listener as a source of jobs.
 ghost use Rattle.std.specs.Prelude.{◌≡◌, ◌+◌, ◌<◌, ◌≤◌, ◌^◌, Some, true, false, IfSome, IfNone, IfOk};
-ghost use Rattle.gate_node.specs.Passes.{ArePassesOf, AreUnused};
+ghost use Rattle.worker_pool.specs.Serving.{ArePassesOf, AreUnused};
 ghost use Rattle.socket_streams.specs.Arriving.{ArrivalsView, IsSameSource, IsNewConnection};
 
 use crate::accept_fault::AcceptFault;

@@ -2,7 +2,7 @@
 
 use crate::connection::{Socket, is_of_now};
 use crate::worker_clock::WorkerClock;
-use node_session::MAX_READ_LEN;
+use session_pool::MAX_READ_LEN;
 use std::alloc::Global;
 use std::io::Read;
 use std::net::Shutdown;

@@ -13,7 +13,7 @@ use Rattle.std.proofs.lemmas.Bool.Decides.{nat_tests}
 use Rattle.riak_msgs.specs.declared.Key.{Key}
 use Rattle.riak_msgs.specs.Contents.{Content}
 use Rattle.riak_msgs.specs.KeyOrder.{key_cmp}
-use Rattle.clock_store.specs.Behind.{entries_behind, next_entry}
+pub use Rattle.clock_store.specs.Behind.{entries_behind, next_entry}
 use Rattle.actor_epoch.specs.declared.Actor.{Actor}
 use Rattle.actor_epoch.specs.Dots.{counter_in}
 use Rattle.clock_store.proofs.NextEntry.{no_head, goes_on, all_pass}

@@ -15,7 +15,7 @@ use Rattle.vnode_machine.specs.Registers.{next_event, IsNext}
 use Rattle.vnode_machine.specs.Replay.{History, naming, IsWithinLimits, IsAfter}
 use Rattle.vnode_machine.specs.Replies.{put_reply}
 use Rattle.vnode_machine.specs.Step.{Response, PutDone, DelDone, ReapDone, Accepted, outcome}
-use Rattle.rw_gate.specs.Machines.{MachineRun}
+pub use Rattle.rw_gate.specs.Machines.{MachineRun}
 use Rattle.rw_gate.specs.Views.{GateId}
 use Rattle.rw_gate.specs.Histories.{IsReplay}
 use Rattle.vnode_core.specs.declared.ask.Ask.{Ask}

@@ -6,8 +6,8 @@ use Rattle.riak_msgs.specs.Contents.{Content}
 use Rattle.riak_msgs.specs.KeyOrder.{key_cmp}
 use Rattle.actor_epoch.specs.Dots.{counter_in}
 use Rattle.clock_store.specs.Behind.{entries_behind}
-use Rattle.clock_store.specs.Keys.{Keys}
-use Rattle.vnode_machine.specs.Machine.{State, Stored, stored}
+pub use Rattle.clock_store.specs.Keys.{Keys, stored_of}
+pub use Rattle.vnode_machine.specs.Machine.{State, Stored, stored}
 
 -- the first has the last dot of the second's life: it knows as much of that one's own actor
 abbrev pub has_last_dot : Stored Content → Stored Content → Bool

@@ -6,8 +6,8 @@ use Rattle.sibling_register.specs.History.{Reap}
 use Rattle.vnode_machine.specs.Machine.{State}
 use Rattle.vnode_machine.specs.Dead.{dead_keys}
 use Rattle.vnode_machine.specs.Step.{ReapDone, ReapKept, MachineOutcome, Answered, Accepted}
-use Rattle.clock_store.specs.declared.store.Reaped.{Reaped}
-use Rattle.clock_store.specs.declared.store.Reaped.TheVariants.{Gone, Kept, Absent}
+pub use Rattle.clock_store.specs.declared.store.Reaped.{Reaped}
+pub use Rattle.clock_store.specs.declared.store.Reaped.TheVariants.{Gone, Kept, Absent}
 pub use Rattle.clock_store.specs.Forgetting.{key_given, reap_result, after_reap, after_first_reap}
 
 -- what comes of a reap, by its result and the state after it

@@ -23,7 +23,7 @@ use Rattle.vnode_core.specs.declared.ask.Answer.TheVariants as answers
 use Rattle.vnode_core.specs.declared.refusal.Refusal.{Refusal}
 use Rattle.vnode_core.specs.declared.ready.Ready.{Ready}
 use Rattle.vnode_core.specs.declared.checks.Writer.{Writer}
-use Rattle.vnode_machine.specs.Sound.{IsSound}
+pub use Rattle.vnode_machine.specs.Sound.{IsSound}
 use Rattle.vnode_core.specs.Plans.{View, AcceptsAsk, IsWrite, StepsOpen, Steps, RefusesOpen}
 use Rattle.clock_store.specs.declared.store.WriteKind.TheVariants.{Value, Tombstone as Dead}
 use Rattle.clock_store.specs.Contents.{Contents, HasWriteRoom, HasSyncRoom}

@@ -74,6 +74,7 @@ mod vnode;
 
 pub use ask::{Answer, Ask, Plan, Reaped};
 pub use change::Change;
+pub use clock_store::{FoundKey, KeyRef, OwnActor, StoredClock, given_parts};
 /// The law of copies between a primary vnode and its fallbacks: what is live of a key at the primary are its joint siblings.
 pub use copy_laws::copy_joins;
 pub use entry::Entry;

@@ -31,7 +31,7 @@ pub(crate) fn absent_reply(alloc: Global) -> GetReply
     }
 }
 
-/// A copy of a sibling as a reply shows it, without its value where it is to be bare.
+/// A sibling as a reply shows it, without its value where it is to be bare.
 fn show(sibling: &Option<Content>, is_bare: bool) -> Result<Shown, AllocError>
     ensures { IfOk result (λ s. s ≡ shown is_bare sibling.now) }
 {
@@ -41,12 +41,12 @@ fn show(sibling: &Option<Content>, is_bare: bool) -> Result<Shown, AllocError>
     }
 }
 
-/// The room that copies of a clock's values are given at once: theirs, since a key has no more siblings than its limit.
+/// The room that a clock's values are given at once: theirs, since a key has no more siblings than its limit.
 fn room_for<V: MadeWith<Global> + Drop>(clock: &Clock<V>) -> usize {
     clock.uncovered(None).min(MAX_SIBLINGS) as usize
 }
 
-/// Copies of a key's siblings as a reply shows them.
+/// A key's siblings as a reply shows them: further owners of their bytes.
 fn show_all(alloc: Global, key: &StoredClock, is_bare: bool) -> Result<Sequence<Shown>, AllocError>
     ensures { IfOk result (λ all. all ≡ all_shown is_bare key.now.clock.meaning) }
 {
@@ -211,7 +211,7 @@ fn preview<'a>(
     Ok(clock)
 }
 
-/// A copy of a sibling that stays, or where there is none of the content that is put, as a reply shows it.
+/// A sibling that stays, or where there is none the content that is put, as a reply shows it.
 fn show_filled(
     sibling: Option<&Option<Content>>,
     content: &Content,
@@ -225,7 +225,7 @@ fn show_filled(
     }
 }
 
-/// Copies of the siblings after a put as its reply shows them.
+/// The siblings after a put as its reply shows them.
 fn show_after(
     alloc: Global,
     after: &Clock<Option<&Option<Content>>>,
@@ -301,7 +301,7 @@ fn sole_reply(
 }
 
 /// The answer to an accepted put, by what was found of its key before it: nothing, or where it asked for them the
-/// siblings after it, with their values or without, and the context. No content is copied that isn't shown.
+/// siblings after it, with their values or without, and the context. No content is copied: what is shown is a further owner of its bytes.
 pub(crate) fn put_reply(
     alloc: Global,
     found: Option<&StoredClock>,

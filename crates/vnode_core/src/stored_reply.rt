@@ -1,11 +1,10 @@
 //! The reply to a get, encoded from where its parts lie.
 
 ghost use Rattle.std.specs.Prelude.{◌≡◌, [], ◌∷◌, true, OnOk};
-ghost use Rattle.pb_fields.specs.Encoding.{bytes_field, repeated_field};
 ghost use Rattle.actor_epoch.specs.Contexts.{encoding, entry_bytes};
 ghost use Rattle.actor_epoch.specs.Entries.{entry_of};
 ghost use Rattle.actor_epoch.specs.declared.version.Version.TheVariants.{Two};
-ghost use Rattle.riak_msgs.specs.Encoding.{context_field, shown_message};
+ghost use Rattle.riak_msgs.specs.Encoding.{bytes_field, context_field, repeated_field, shown_message};
 ghost use Rattle.clock_store.specs.Keys.{stored_of};
 ghost use Rattle.std.specs.List.{flat_map};
 ghost use Rattle.vnode_core.specs.Replies.{nothing, unchanged, shown_siblings, shown_context, siblings_of};
@@ -13,8 +12,7 @@ ghost use Rattle.vnode_core.specs.Replies.{nothing, unchanged, shown_siblings, s
 use crate::replies::{is_shown_by, only_pair};
 use actor_epoch::{Actor, Context, Counter};
 use clock_store::StoredClock;
-use pb_fields::{Message, Output, encode_message};
-use riak_msgs::{GetAsk, ShownSibling};
+use riak_msgs::{GetAsk, Message, Output, ShownSibling, encode_message};
 use std::alloc::AllocError;
 use std::marker::Model;
 
@@ -162,7 +160,7 @@ impl<'a> Message for KnownContext<'a> {
 
 /// The field of a context of one pair.
 #[inline(always)]
-#[tactic(auto, unfolding(wire_varint::specs::Varint::encoding, wire_varint::specs::Varint::encoded))]
+#[tactic(auto, unfolding(riak_msgs::specs::Encoding::varint_encoding, riak_msgs::specs::Encoding::varint_encoded))]
 fn pair_field(actor: Actor, counter: Counter) -> [u8; 23]
     ensures { result ≡ bytes_field 2 (encoding (entry_of (actor, counter) ∷ [])) }
 {

@@ -195,7 +195,7 @@ impl<S: ClockStore> VnodeOver<S> {
         VnodeOver::after(alloc, id, first_epoch - 1)
     }
 
-    /// Shows a key: copies of its siblings, the newest first, and the bytes of its context; nothing, where the key is
+    /// Shows a key: its siblings, the newest first, and the bytes of its context; nothing, where the key is
     /// absent. A dead key, whose siblings are all tombstones, shows its context alone, and that with `deletedvclock`
     /// alone. With `head` the values are empty. Where the key has a value and `if_modified` has the entries of its clock,
     /// the reply is `unchanged` alone; any other `if_modified` is as none.

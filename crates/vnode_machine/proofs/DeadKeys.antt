@@ -9,6 +9,7 @@ use Rattle.std.specs.FinMap.Entries.{find, where_key, is_sorted, below_all}
 use Rattle.riak_msgs.specs.declared.Key.{Key}
 use Rattle.riak_msgs.specs.Contents.{Content}
 use Rattle.riak_msgs.specs.KeyOrder.{key_cmp, key_eq}
+pub use Rattle.sibling_register.proofs.Following.{and_true}
 use Rattle.vnode_machine.specs.Machine.{State, Stored, stored, holds_dead}
 use Rattle.vnode_machine.specs.Replay.{History, replay}
 use Rattle.vnode_machine.specs.Dead.{is_from, dead_keys, first_dead, reaped}

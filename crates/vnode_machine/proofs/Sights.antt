@@ -1,6 +1,6 @@
 -- What an accepted event saw is what its pairs cover.
 use Rattle.std.proofs.Common.{◌≡◌, ℕ, ◌≤◌, Bool, true, false, not, ◌&&◌, ◌||◌, cond, List, [], ◌∷◌, refl, sym, ◌∙◌, ap, arith, subst}
-use Rattle.std.specs.Prelude.{option_and_then, nat_eq, nat_le, nat_lt, max, filter, Option, Some, None, IsTrue, unwrap_or, ◌==◌}
+use Rattle.std.specs.Prelude.{option_and_then, nat_le, nat_lt, max, filter, Option, Some, None, IsTrue, unwrap_or, ◌==◌}
 use Rattle.std.specs.Option.{option_map_or}
 use Rattle.std.specs.List.{list_any}
 use Rattle.std.proofs.lemmas.Bool.Decides.{nat_tests}
@@ -14,6 +14,7 @@ use Rattle.actor_epoch.specs.declared.Actor.{Actor}
 use Rattle.actor_epoch.specs.declared.Dot.{Dot}
 use Rattle.actor_epoch.specs.Dots.{actor_eq, dot_eq, covers, counter_in}
 use Rattle.actor_epoch.specs.Given.{Context, Pairs}
+pub use Rattle.dvv_set.proofs.Live.{dot_eq-same}
 use Rattle.vnode_machine.specs.Machine.{Stored, State, clock_of, own_of, next_actor, actor_for, stored, same_pairs, names_unissued_dot}
 use Rattle.vnode_machine.specs.Lives.{dot_of}
 use Rattle.vnode_machine.specs.Replay.{replay, naming, seen_by_context}
@@ -22,8 +23,8 @@ use Rattle.vnode_machine.proofs.Numbers.{is_among-filter}
 use Rattle.vnode_machine.proofs.Invariants.{H, Entry, clock_in, IsLiveOf, IsKept, IsSplit, IsEarlier, actor_of}
 use Rattle.vnode_machine.proofs.Bases.{IsBehind, IsOwned}
 use Rattle.vnode_machine.proofs.Updates.{IsSeen}
-use Rattle.vnode_machine.proofs.Counters.{actor_eq-same, covers-counter, counter_in-low, is_low, are_low}
-use Rattle.vnode_machine.proofs.Tests.{and_both, and_left, and_right, or_left, or_right, nat_eq-same}
+use Rattle.vnode_machine.proofs.Counters.{covers-counter, counter_in-low, is_low, are_low}
+use Rattle.vnode_machine.proofs.Tests.{and_both, and_left, and_right, or_left, or_right}
 
 -- pairs that don't run ahead name no later epoch
 pub low-ahead : (v : ℕ) (state : State Content) (key : Key) (pairs : List Dot) → state.vnode ≡ v → list_any (names_unissued_dot state key) pairs ≡ false
@@ -97,12 +98,6 @@ same_pairs-same [] [] h = refl
 same_pairs-same [] (d ∷ b) h = cc
 same_pairs-same (d ∷ a) [] h = cc
 same_pairs-same (d ∷ a) (e ∷ b) h = λ i. dot_eq-same d e (and_left (dot_eq d e) (same_pairs a b) h) i ∷ same_pairs-same a b (and_right (dot_eq d e) (same_pairs a b) h) i
-  where
-    dot_eq-same : (d e : Dot) → dot_eq d e ≡ true → d ≡ e
-    dot_eq-same d e h =
-        let actors : d.actor ≡ e.actor = actor_eq-same d.actor e.actor (and_left (actor_eq d.actor e.actor) (nat_eq d.counter e.counter) h) in
-        let counters : d.counter ≡ e.counter = nat_eq-same d.counter e.counter (and_right (actor_eq d.actor e.actor) (nat_eq d.counter e.counter) h) in
-        λ i. record { actor = actors i; counter = counters i }
 
 -- a property of each position
 abbrev pub Each : (H → Type 0) → H → Type 0

@@ -5,7 +5,7 @@ use Rattle.riak_msgs.specs.Contents.{Content}
 use Rattle.riak_msgs.specs.declared.GetReply.{GetReply}
 use Rattle.riak_msgs.specs.declared.PutReply.{PutReply}
 use Rattle.sibling_register.specs.History.{Operation, Write, Tombstone, Reap}
-use Rattle.sibling_register.specs.Answers.{PutCommand, DelCommand, RegisterAsk, AskGet, AskPut, AskDel, AskReap}
+pub use Rattle.sibling_register.specs.Answers.{PutCommand, DelCommand, RegisterAsk, AskGet, AskPut, AskDel, AskReap}
 use Rattle.actor_epoch.specs.Given.{Context}
 use Rattle.vnode_machine.specs.Machine.{State, is_held, holds_dead, put_check, del_check, apply_operation}
 use Rattle.vnode_machine.specs.Replies.{get_reply, put_reply}

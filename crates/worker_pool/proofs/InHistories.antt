@@ -3,14 +3,12 @@ use Rattle.std.proofs.Common.{ℕ, List, [], ◌∷◌, sym, subst}
 use Rattle.std.proofs.lemmas.List.Elements.{All-head, All-tail}
 use Rattle.std.specs.Prelude.{Option, Result, Ok, Err, MatchResult}
 use Rattle.std.specs.List.{All, AllZip}
-use Rattle.riak_msgs.specs.declared.Request.{Request}
-use Rattle.riak_msgs.specs.declared.Reply.{Reply}
 use Rattle.job_pool.specs.Lists.{Pairwise}
 use Rattle.node_session.specs.declared.ended.Ended.{Ended}
 use Rattle.node_session.specs.declared.fault.SessionFault.{SessionFault}
 use Rattle.node_session.proofs.HandingBack.{end_in, stops_in}
 use Rattle.gate_node.specs.Gates.{Gates}
-use Rattle.gate_node.specs.GateStep.{NodeOverGates, GateNodeStep}
+use Rattle.gate_node.specs.GateStep.{NodeOverGates, GateNodeStep, Request, Reply}
 use Rattle.gate_node.specs.Passes.{Sights}
 use Rattle.gate_node.specs.Tallies.{GateHistory}
 use Rattle.gate_node.specs.OneHistory.{IsSeen, StepIn}

@@ -1,17 +1,14 @@
 -- The sessions of a run over histories of commands alone are the register's.
 use Rattle.std.proofs.Common.{◌≡◌, ◌∙◌, ℕ, List, [], ◌∷◌, refl, sym, subst}
-use Rattle.std.specs.Prelude.{false, Option, Result, Ok, Err, MatchResult}
-use Rattle.riak_msgs.specs.declared.Request.{Request}
-use Rattle.riak_msgs.specs.declared.Reply.{Reply}
+use Rattle.std.specs.Prelude.{Option, Result, Ok, Err, MatchResult}
 use Rattle.job_pool.specs.Lists.{Pairwise}
 use Rattle.node_session.specs.Answered.{AnsweredInput}
 use Rattle.node_session.specs.Session.{IsInputEnd, Stops}
 use Rattle.node_session.specs.declared.ended.Ended.{Ended}
 use Rattle.node_session.specs.declared.fault.SessionFault.{SessionFault}
 use Rattle.node_session.proofs.Simulating.{end_like, stops_like}
-use Rattle.handoff.specs.Partitions.{AreNone}
-use Rattle.gate_node.specs.Gates.{Gates}
-use Rattle.gate_node.specs.GateStep.{NodeOverGates}
+use Rattle.gate_node.specs.Gates.{Gates, AreNone}
+use Rattle.gate_node.specs.GateStep.{NodeOverGates, Request, Reply}
 use Rattle.gate_node.specs.OneHistory.{StepIn}
 use Rattle.gate_node.specs.Plain.{AnswersAsRegister, AreOfCommands}
 use Rattle.gate_node.specs.Tallies.{GateHistory}

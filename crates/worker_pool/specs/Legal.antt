@@ -1,8 +1,7 @@
 -- What a run of the pool over partitions without fallbacks replies: at positions of legal histories of the sibling register.
 use Rattle.std.specs.Prelude.{◌≡◌, ℕ, true, List, Option}
 use Rattle.job_pool.specs.Lists.{Pairwise}
-use Rattle.handoff.specs.Partitions.{AreNone, AreOfNewRun}
-use Rattle.gate_node.specs.Gates.{Gates}
+use Rattle.gate_node.specs.Gates.{Gates, AreNone, AreOfNewRun}
 use Rattle.gate_node.specs.OneHistory.{AreOfGates}
 use Rattle.gate_node.specs.Plain.{AnswersAsRegister, AreLegal}
 use Rattle.gate_node.specs.Tallies.{GateHistory, IsTally}

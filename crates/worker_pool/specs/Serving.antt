@@ -1,7 +1,5 @@
 -- What the end of a job says.
 use Rattle.std.specs.Prelude.{◌≡◌, ℕ, false, List, Option, IfSome, MatchResult}
-use Rattle.riak_msgs.specs.declared.Request.{Request}
-use Rattle.riak_msgs.specs.declared.Reply.{Reply}
 use Rattle.job_pool.specs.Lists.{Every}
 use Rattle.node_session.specs.declared.ended.Ended.{Ended}
 use Rattle.node_session.specs.declared.fault.SessionFault.{SessionFault}
@@ -10,9 +8,9 @@ use Rattle.node_session.specs.Session.{Given, IsInputEnd, Stops, IsTooManyReads,
 use Rattle.node_session.specs.Courses.{Came}
 use Rattle.stats_book.specs.Counting.{both, zeros}
 use Rattle.stats_book.specs.declared.totals.Totals.{Totals}
-use Rattle.gate_node.specs.Gates.{Gates}
-use Rattle.gate_node.specs.GateStep.{NodeOverGates, GateNodeStep}
-use Rattle.gate_node.specs.Passes.{Sights, ArePassesOf}
+pub use Rattle.gate_node.specs.Gates.{Gates}
+use Rattle.gate_node.specs.GateStep.{NodeOverGates, GateNodeStep, Request, Reply}
+pub use Rattle.gate_node.specs.Passes.{Sights, ArePassesOf, AreUnused}
 use Rattle.worker_pool.specs.declared.job.Job.{Job}
 use Rattle.worker_pool.specs.declared.job.End.{End}
 use Rattle.worker_pool.specs.declared.server.ServedJob.{ServedJob}

@@ -1,5 +1,5 @@
 use Rattle.std.proofs.Common.{◌∙◌, refl}
-use Rattle.clock_store.specs.Keys.{stored_of}
+use Rattle.vnode_core.specs.Left.{stored_of}
 use Rattle.key_counts.specs.Stored.{is_dead}
 use Rattle.key_counts.proofs.Sums.{same-counts}
 use Rattle.key_counts.proofs.Walks.{one-capped}

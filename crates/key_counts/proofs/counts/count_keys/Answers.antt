@@ -2,9 +2,8 @@ use Rattle.std.proofs.Common.{◌∙◌, ap, sym}
 use Rattle.std.specs.Prelude.{Option, Some}
 use Rattle.riak_msgs.specs.declared.Key.{Key}
 use Rattle.riak_msgs.specs.KeyOrder.{key_cmp}
-use Rattle.clock_store.specs.Behind.{next_entry}
-use Rattle.clock_store.specs.Keys.{stored_of}
-use Rattle.vnode_core.proofs.Lefts.{next-fewer}
+use Rattle.vnode_core.specs.Left.{stored_of}
+use Rattle.vnode_core.proofs.Lefts.{next_entry, next-fewer}
 use Rattle.key_counts.specs.Stored.{counts_in}
 use Rattle.key_counts.specs.Sums.{no_counts, plus}
 use Rattle.key_counts.proofs.Sums.{capped-twice}

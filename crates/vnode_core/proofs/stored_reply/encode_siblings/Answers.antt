@@ -1,6 +1,6 @@
 use Rattle.std.proofs.Common.{◌≡◌, List, map, sym, ap, subst, ◌∙◌}
 use Rattle.std.proofs.lemmas.Simd.{map-map}
-use Rattle.pb_fields.specs.Encoding.{repeated_field}
+use Rattle.riak_msgs.specs.Encoding.{repeated_field}
 use Rattle.riak_msgs.specs.Contents.{shown}
 use Rattle.riak_msgs.specs.Encoding.{shown_message}
 use Rattle.riak_msgs.specs.declared.Shown.{Shown}

@@ -1,5 +1,5 @@
 use Rattle.std.proofs.Common.{map}
-use Rattle.pb_fields.specs.Encoding.{repeated_field}
+use Rattle.riak_msgs.specs.Encoding.{repeated_field}
 use Rattle.riak_msgs.specs.Contents.{shown}
 use Rattle.riak_msgs.specs.Encoding.{shown_message}
 use Rattle.vnode_core.proofs.Appending.{Leads}
