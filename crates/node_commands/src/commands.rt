@@ -15,7 +15,12 @@ use std::alloc::Global;
 use std::io::{Read, Write};
 use std::rt::Clock;
 use std::sync::Wait;
-use std::sync::atomic::AtomicBool;
+use std::sync::atomic::{AtomicBool, Ordering};
+use std::thread;
+use std::time::Duration;
+
+/// The pause, in microseconds, before it is looked again whether the workers have what they keep for themselves.
+const SETTLE_MICROS: u64 = 100;
 
 /// What a server is paused or stopped for.
 #[derive(Clone, Copy, Drop)]
@@ -93,15 +98,25 @@ fn finish_return<X: Wait>(
     }
 }
 
-impl<C: Read + Write> Console<C> {
-    /// Has the workers paused for this, and returns it; refuses it where no memory is kept back by which they could be started again.
-    fn pause_for(&mut self, stop: &Stop, asked: Asked) -> Option<Asked> {
-        if !self.can_pause() {
-            self.answer(Answer::Refused(Refusal::NoMemory));
-            return None;
+/// Waits until the workers have what they keep back, or serving has ended.
+fn wait_for_workers<X: Clock + Wait>(rt: &X, stop: &Stop, has_ended: &AtomicBool) {
+    for _ in rt.forever() {
+        if stop.is_ready() || has_ended.load(Ordering::SeqCst) {
+            return;
         }
-        stop.pause();
-        Some(asked)
+        thread::sleep(rt, Duration::from_micros(SETTLE_MICROS));
+    }
+    unreachable!()
+}
+
+impl<C: Read + Write> Console<C> {
+    /// Has the workers paused for this, and returns it; refuses it where too little memory is kept back by which they could be started again.
+    fn pause_for(&mut self, stop: &Stop, asked: Asked) -> Option<Asked> {
+        if stop.pause_if_kept() {
+            return Some(asked);
+        }
+        self.answer(Answer::Refused(Refusal::NoMemory));
+        None
     }
 
     /// Does a command on a partition that there is: one that needs no pause.
@@ -182,7 +197,7 @@ impl<C: Read + Write> Console<C> {
         }
     }
 
-    /// Tells what was kept, and does what the lines that come ask for, until one needs a pause or stops the node, the input ends, which stops it, or
+    /// Waits until the workers have what they keep for themselves, tells what was kept, and does what the lines that come ask for, until one needs a pause or stops the node, the input ends, which stops it, or
     /// serving has ended. A line without its line feed is none.
     pub(crate) fn hear<X: Clock + Wait>(
         &mut self,
@@ -196,11 +211,10 @@ impl<C: Read + Write> Console<C> {
         requires { HaveTracks (handoff_of shared.now) tracks.old }
         ensures { HaveTracks (handoff_of shared.now) tracks.new }
     {
-        // before what is stored is counted, since meanwhile the workers may fill what was let go for the pause
-        self.keep_back(alloc);
+        wait_for_workers(rt, stop, has_ended);
         self.tell_kept(rt, alloc, shared.handoff());
         for _ in rt.forever() {
-            match self.read_line(rt, alloc, has_ended) {
+            match self.read_line(rt, has_ended) {
                 Heard::Over => return Asked::Nothing,
                 Heard::End => {
                     stop.raise();

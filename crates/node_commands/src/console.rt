@@ -19,9 +19,6 @@ use std::time::Duration;
 /// How many bytes of a line are kept: more than a command has.
 const MAX_LINE: usize = 64;
 
-/// How many bytes are kept back for a pause.
-const SPARE_LEN: usize = 1_048_576;
-
 /// The pause, in milliseconds, before a channel is read again that had nothing yet.
 const PAUSE_MILLIS: u64 = 10;
 
@@ -64,8 +61,6 @@ pub(crate) struct Console<C> {
     length: usize,
     /// What is told once the workers go on, so that they don't wait for an operator who doesn't read.
     kept: Option<Told>,
-    /// Memory that is let go while the workers are paused, so that they can be started again where they had filled all of it.
-    spare: Option<Vec<u8>>,
 }
 
 impl<C: Read + Write> Console<C> {
@@ -76,25 +71,7 @@ impl<C: Read + Write> Console<C> {
             line: [0; MAX_LINE],
             length: 0,
             kept: None,
-            spare: None,
         }
-    }
-
-    /// Keeps memory back for a pause, where that isn't kept yet and can be had.
-    pub(crate) fn keep_back(&mut self, alloc: Global) {
-        if self.spare.is_none() {
-            self.spare = Vec::with_capacity(alloc, SPARE_LEN).ok();
-        }
-    }
-
-    /// Whether memory is kept back for a pause.
-    pub(crate) fn can_pause(&self) -> bool {
-        self.spare.is_some()
-    }
-
-    /// Lets go what is kept back, while the workers are paused.
-    pub(crate) fn make_way(&mut self) {
-        self.spare = None;
     }
 
     /// Keeps what the operator is told once it is heard again.
@@ -140,16 +117,10 @@ impl<C: Read + Write> Console<C> {
         false
     }
 
-    /// Reads on to the end of a line, and keeps memory back meanwhile. Where who wrote has gone, what has come of the line is dropped.
-    pub(crate) fn read_line<X: Clock + Wait>(
-        &mut self,
-        rt: &X,
-        alloc: Global,
-        has_ended: &AtomicBool,
-    ) -> Heard {
+    /// Reads on to the end of a line. Where who wrote has gone, what has come of the line is dropped.
+    pub(crate) fn read_line<X: Clock + Wait>(&mut self, rt: &X, has_ended: &AtomicBool) -> Heard {
         let mut byte = [0u8; 1];
         for _ in rt.forever() {
-            self.keep_back(alloc);
             if has_ended.load(Ordering::SeqCst) {
                 return Heard::Over;
             }

@@ -106,7 +106,7 @@ fn totals_of(paused: &Paused) -> Told
     Told::Totals(paused.progress.totals, paused.progress.connections)
 }
 
-/// Does what a server was paused for, lets go what was kept back for that, and keeps what the operator is told of that.
+/// Does what a server was paused for, and keeps what the operator is told of that.
 fn heed<C: Read + Write>(
     alloc: Global,
     paused: Paused,
@@ -118,7 +118,6 @@ fn heed<C: Read + Write>(
     ensures serves { CanServe settings.now result }
     ensures tracks { HaveTracks (handoff_of result.shared) hearing.new.tracks }
 {
-    hearing.console.make_way();
     match hearing.asked {
         Asked::Divert(partition) => {
             let (paused, answer) = divert(alloc, paused, settings, &mut hearing.tracks, partition);
@@ -235,8 +234,9 @@ fn conclude<X: Wait>(
 /// that is to be sent. Then they go on. Sockets that are kept open for late bytes alone, behind a refused frame, are closed then, and the time for which
 /// connections have been silent is counted anew.
 ///
-/// So that the workers can be started again where they had filled all memory, a MiB is kept back between pauses; where it can't be had, `totals` and `divert`
-/// are refused with `no memory`. Where they can't be started for want of a thread or a descriptor, serving ends with that fault.
+/// So that the workers can be started again where they had filled all memory, a MiB is kept back between pauses, by the accepting thread; while less than half
+/// of it can be had, `totals` and `divert` are refused with `no memory`. Where they can't be started for want of a thread or a descriptor, serving ends with that
+/// fault.
 pub fn serve_controlled<T, C, W>(
     rt: &T,
     alloc: Global,

@@ -120,6 +120,7 @@ where
         connections: left_of(settings.connections, connections),
         counts_refused: true,
         can_stop: true,
+        keeps_back: true,
         tries: None,
     };
     let arrivals = match Arrivals::new(rt, alloc, listener, accepting, shared, stop, limits) {

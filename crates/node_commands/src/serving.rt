@@ -98,6 +98,7 @@ where
         connections: Some(u64::from(connections)),
         counts_refused: false,
         can_stop: false,
+        keeps_back: false,
         tries: Some(MAX_ACCEPT_TRIES),
     };
     let mut arrivals = match Arrivals::new(rt, alloc, listener, accepting, shared, stop, limits) {

@@ -128,6 +128,7 @@ where
         connections: settings.connections,
         counts_refused: true,
         can_stop,
+        keeps_back: false,
         tries: None,
     };
     let arrivals = match Arrivals::new(rt, alloc, listener, accepting, shared, stop, limits) {

@@ -9,12 +9,10 @@ use crate::halves::{ReplyHalf, RequestHalf, new_halves, new_socket};
 use crate::limits::Limits;
 use crate::log_sink::log_refused;
 use crate::pause::PAUSE_MILLIS;
-use crate::spare::Spare;
+use crate::spare::{PauseSpare, Spare};
 use crate::stop::Stop;
 use crate::waits::Waits;
 use log::{Log, info, warn};
-use mio::unix::SourceFd;
-use mio::{Interest, Token};
 use std::alloc::Global;
 use std::marker::Model;
 use std::net::{OpenListener, SocketAddr, TcpStream};
@@ -24,9 +22,6 @@ use std::sync::Wait;
 use std::time::Duration;
 use std::{io, thread};
 use worker_pool::{Job, JobFault, Jobs, Passes, Shared};
-
-/// The token of the listener.
-const LISTENER: usize = 0;
 
 /// The connections of a listener, each with new passes of the gates of a run, until as many were accepted as are to be, or the run is stopped or
 /// paused.
@@ -43,6 +38,7 @@ pub struct Arrivals<'a, X, L> {
     shared: &'a Shared,
     stop: &'a Stop,
     spare: Spare,
+    for_pause: PauseSpare,
     limits: Limits,
     given: u64,
     refused: u64,
@@ -74,17 +70,6 @@ impl<'a, X, L> Model for Arrivals<'a, X, L> {
         × (a.limits.counts_refused ≡ false → a.refused ≡ 0) };
 }
 
-/// Has a listener not wait, and its connections reported.
-fn watch<L: OpenListener + AsRawFd>(waits: &Waits, listener: &L) -> io::Result<()> {
-    listener.set_nonblocking(true)?;
-    let descriptor = listener.as_raw_fd();
-    waits.poll.registry().register(
-        &mut SourceFd(&descriptor),
-        Token(LISTENER),
-        Interest::READABLE,
-    )
-}
-
 impl<'a, X, L: OpenListener<Stream = TcpStream> + AsRawFd> Arrivals<'a, X, L> {
     /// The connections that come to a listener, within these limits.
     pub fn new(
@@ -105,7 +90,7 @@ impl<'a, X, L: OpenListener<Stream = TcpStream> + AsRawFd> Arrivals<'a, X, L> {
           refused = 0;
         }) }
     {
-        watch(&waits, listener)?;
+        waits.watch(listener)?;
         Ok(Arrivals {
             rt,
             alloc,
@@ -114,6 +99,7 @@ impl<'a, X, L: OpenListener<Stream = TcpStream> + AsRawFd> Arrivals<'a, X, L> {
             shared,
             stop,
             spare: Spare::new(alloc),
+            for_pause: PauseSpare::new(alloc, limits.keeps_back),
             limits,
             given: 0,
             refused: 0,
@@ -128,11 +114,6 @@ impl<'a, X, L: OpenListener<Stream = TcpStream> + AsRawFd> Arrivals<'a, X, L> {
         ensures { result.now ≡ self.now.gates }
     {
         self.shared
-    }
-
-    /// All threads of the run were started: it is asked for its first job then.
-    pub(crate) fn start(&self) {
-        self.stop.start();
     }
 
     /// How many connections were accepted.
@@ -253,6 +234,19 @@ where
         thread::sleep(self.rt, Duration::from_millis(PAUSE_MILLIS));
     }
 
+    /// All threads of the run were started: it is asked for its first job then. Memory is kept back for a pause once the workers have theirs, and before they have
+    /// a session.
+    pub(crate) fn start(&mut self)
+        ensures { self.new ≡ self.old }
+    {
+        self.stop.start();
+        if self.limits.keeps_back && !self.stop.is_ready() {
+            self.stop.wait_for_workers(self.rt);
+            self.for_pause.refill(self.alloc, self.stop);
+            self.stop.set_ready();
+        }
+    }
+
     /// Waits until a connection does, or accepting is stopped. Where the wait fails, for a short time.
     fn wait(&mut self)
         ensures { self.new ≡ self.old }
@@ -260,6 +254,7 @@ where
         if self.waits.poll.poll(&mut self.waits.events, None).is_err() {
             self.pause();
         }
+        self.for_pause.refill(self.alloc, self.stop);
     }
 
     /// One try more gave no connection. Refused where none is to be made any more.

@@ -47,6 +47,8 @@ pub struct SocketDesk<'s, X> {
     unwatched: Option<usize>,
     /// Whether it has seen that all threads were started.
     has_started: bool,
+    /// Whether it has said that the worker has what it keeps for itself.
+    is_settled: bool,
     /// Whether it has seen that serving is stopped.
     is_stopping: bool,
     /// Whether it has seen that the run pauses.
@@ -69,6 +71,7 @@ impl<'s, X> Drop for SocketDesk<'s, X> {
             round: _round,
             unwatched: _unwatched,
             has_started: _has_started,
+            is_settled: _is_settled,
             is_stopping: _is_stopping,
             is_pausing: _is_pausing,
         } = self;
@@ -125,6 +128,7 @@ impl<'s, X: Clock + Wait> SocketDesk<'s, X> {
             round: None,
             unwatched: None,
             has_started: false,
+            is_settled: false,
             is_stopping: false,
             is_pausing: false,
         }
@@ -290,6 +294,14 @@ impl<'s, X: Clock + Wait> SocketDesk<'s, X> {
         }
     }
 
+    /// Says once that the worker has what it keeps for itself: that is filled behind the wait in which the desk has seen that all threads were started.
+    fn settle(&mut self) {
+        if self.has_started && !self.is_settled {
+            self.is_settled = true;
+            self.stop.settle();
+        }
+    }
+
     /// Where serving was stopped since it was last looked: each connection is to have a turn, and is then given up.
     fn note_stop(&mut self) {
         if !self.is_stopping && self.stop.is_stopping() {
@@ -336,6 +348,7 @@ impl<'s, X: Clock + Wait> StreamReadiness<RequestHalf, ReplyHalf> for SocketDesk
     }
 
     fn wait<T: Wait>(&mut self, _rt: &T, is_idle: bool) {
+        self.settle();
         self.poll(is_idle);
         self.has_started = self.stop.is_started();
         self.note_ready();

@@ -4,7 +4,7 @@
 //! ```text
 //! let (waits, stop) = new_run_waits(&rt, alloc, 4)?;                          // four workers; each run has its own
 //! let seats = new_seats(&rt, alloc, &stop, waits.workers, waiting)?;          // for each a sink, a readiness and a bell
-//! let limits = Limits { connections: Some(9), counts_refused: true, can_stop: true, tries: None };
+//! let limits = Limits { connections: Some(9), counts_refused: true, can_stop: true, keeps_back: true, tries: None };
 //! let arrivals = Arrivals::new(&rt, alloc, &listener, waits.accepting, &shared, &stop, limits)?;
 //! let mut sessions = Sessions::new(alloc, arrivals, rested);                  // `resting` of the run before; none at first
 //! serve(&rt, alloc, &shared, &mut sessions, seats, &Open, &stop, &mut seen)   // of `session_pool`

@@ -12,6 +12,8 @@ pub struct Limits {
     pub counts_refused: bool,
     /// Whether the stop may end accepting before: it is raised, or pauses the run.
     pub can_stop: bool,
+    /// Whether a MiB is kept back between connections, by which the run can be started again behind a pause.
+    pub keeps_back: bool,
     /// Behind how many tries in a row that gave no connection none is made any more, if there is such a number.
     pub tries: Option<u32>,
 }

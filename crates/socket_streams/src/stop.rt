@@ -1,13 +1,13 @@
 //! How a run is ended, and how it is paused.
 
 use crate::door::Door;
-use crate::pause::PAUSE_MILLIS;
+use crate::pause::{PAUSE_MILLIS, SETTLE_MICROS};
 use mio::Waker;
 use session_pool::Pause;
 use std::alloc::Global;
 use std::io::{ErrorKind, Read};
 use std::rt::Clock;
-use std::sync::atomic::{AtomicBool, Ordering};
+use std::sync::atomic::{AtomicBool, AtomicUsize, Ordering};
 use std::sync::{Arc, Wait};
 use std::thread;
 use std::time::Duration;
@@ -28,8 +28,13 @@ pub struct Stop {
     accepting: Waker,
     doors: Vec<Arc<Door, Global>>,
     is_started: AtomicBool,
+    /// How many workers have what they keep for themselves.
+    settled: AtomicUsize,
+    is_ready: AtomicBool,
     is_stopping: AtomicBool,
     is_pausing: AtomicBool,
+    /// Whether memory is kept back by which the run can be started again.
+    is_pausable: AtomicBool,
     /// Whether serving has ended.
     is_over: AtomicBool,
 }
@@ -41,8 +46,11 @@ impl Stop {
             accepting,
             doors,
             is_started: AtomicBool::new(false),
+            settled: AtomicUsize::new(0),
+            is_ready: AtomicBool::new(false),
             is_stopping: AtomicBool::new(false),
             is_pausing: AtomicBool::new(false),
+            is_pausable: AtomicBool::new(false),
             is_over: AtomicBool::new(false),
         }
     }
@@ -57,6 +65,33 @@ impl Stop {
         if !self.is_started.swap(true, Ordering::SeqCst) {
             self.wake_workers();
         }
+    }
+
+    /// One more worker has what it keeps for itself, or as much of it as there is memory for.
+    pub(crate) fn settle(&self) {
+        self.settled.fetch_add(1, Ordering::SeqCst);
+    }
+
+    /// Waits until each worker has what it keeps for itself, which they take once all threads were started, or as much of it as there is memory for.
+    pub(crate) fn wait_for_workers<X: Clock + Wait>(&self, rt: &X) {
+        for _ in rt.forever() {
+            if self.settled.load(Ordering::SeqCst) >= self.doors.len() {
+                return;
+            }
+            thread::sleep(rt, Duration::from_micros(SETTLE_MICROS));
+        }
+        unreachable!()
+    }
+
+    /// The workers are settled, and the accepting thread has what it keeps back.
+    pub(crate) fn set_ready(&self) {
+        self.is_ready.store(true, Ordering::SeqCst);
+    }
+
+    /// Whether the workers and the accepting thread have what they keep back, or as much of it as there is memory for. In a run that keeps memory back for a
+    /// pause a thread beside them takes none before: an allocator gives what earlier threads have left to those that ask first.
+    pub fn is_ready(&self) -> bool {
+        self.is_ready.load(Ordering::SeqCst)
     }
 
     /// Wakes the workers.
@@ -93,6 +128,22 @@ impl Stop {
     pub fn pause(&self) {
         self.is_pausing.store(true, Ordering::SeqCst);
         self.wake_all();
+    }
+
+    /// Whether memory is kept back by which the run can be started again.
+    pub(crate) fn set_pausable(&self, is_pausable: bool) {
+        self.is_pausable.store(is_pausable, Ordering::SeqCst);
+    }
+
+    /// Pauses the run where memory is kept back by which it can be started again. False where there is too little of it, or its limits keep none back
+    /// ([`Limits`](crate::Limits)): the accepting thread tries to make what lacks then.
+    pub fn pause_if_kept(&self) -> bool {
+        if self.is_pausable.load(Ordering::SeqCst) {
+            self.pause();
+            return true;
+        }
+        let _taken = self.accepting.wake();
+        false
     }
 
     /// Whether no more connections are to be accepted.

@@ -8,14 +8,19 @@ use crate::log_sink::LogSink;
 use crate::stop::Stop;
 use crate::waiting::Waiting;
 use job_pool::Post;
-use mio::{Events, Poll, Token, Waker};
+use mio::unix::SourceFd;
+use mio::{Events, Interest, Poll, Token, Waker};
 use session_pool::Seat;
 use std::alloc::Global;
 use std::io;
-use std::net::Net;
+use std::net::{Net, OpenListener};
+use std::os::fd::AsRawFd;
 use std::rt::Clock;
 use std::sync::{Arc, Wait};
 use worker_pool::Shown;
+
+/// The token of the listener.
+const LISTENER: usize = 0;
 
 /// The token of a waker; those of connections are their slots, which are below it.
 pub(crate) const WAKER: usize = 18_446_744_073_709_551_615;
@@ -36,6 +41,19 @@ impl Drop for Waits {
             poll: _poll,
             events: _events,
         } = self;
+    }
+}
+
+impl Waits {
+    /// Has a listener not wait, and its connections reported.
+    pub(crate) fn watch<L: OpenListener + AsRawFd>(&self, listener: &L) -> io::Result<()> {
+        listener.set_nonblocking(true)?;
+        let descriptor = listener.as_raw_fd();
+        self.poll.registry().register(
+            &mut SourceFd(&descriptor),
+            Token(LISTENER),
+            Interest::READABLE,
+        )
     }
 }
 
