@@ -5,8 +5,8 @@
 //! and associative in what is known and live (`sync_joins`). In code a clock is the module's entries (actor, n, values):
 //! the dots 1 to n are known, and the values, newest first, have the last of them (`specs/ClockEntries`).
 //!
-//! Known and live dots follow the `dvvset` module of Riak without its anonymous values; `discard` is this project's name
-//! for the sync with a context's pairs that its update does first. An actor is found by a walk over the entries, 64 at
+//! Known and live dots follow the `dvvset` module of Riak without its anonymous values. Its update first syncs with the pairs of a
+//! context, which is a call of its own here, `discard`. An actor is found by a walk over the entries, 64 at
 //! most; an event moves the actor's values once. A clock holds one entry and each entry two values in place
 //! (`InlineList`). It takes memory for more, and, to make room for a value, for one more in each entry that is full.
 //!

@@ -1,4 +1,6 @@
 pub mod Picking
+pub mod PlainFields
+pub mod PlainRequests
 pub mod ValueAndDetails
 pub mod KeptContents
 pub mod EncodedOptions

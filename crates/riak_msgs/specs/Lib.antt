@@ -10,6 +10,7 @@ pub mod Encoding
 pub mod Replies
 pub mod Requests
 pub mod Picking
+pub mod PlainFields
 pub mod Embedded
 pub mod EncodedPicks
 pub mod EncodedContents
@@ -20,5 +21,7 @@ pub mod Parts
 pub mod SeenContents
 pub mod SeenRequests
 pub mod Reading
+pub mod PlainPuts
+pub mod PlainDeletes
 pub mod ReadingReplies
 pub mod SeenReplies

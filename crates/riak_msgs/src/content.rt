@@ -85,6 +85,16 @@ impl Content {
         })
     }
 
+    /// A copy of the content of this encoding.
+    #[inline(always)]
+    pub(crate) fn from_encoding(alloc: Global, encoding: &[u8]) -> Result<Content, AllocError>
+        requires { (content : Content) × (encoding.now ≡ content_message content) }
+        ensures { (content : Content) → encoding.now ≡ content_message content
+            → IfOk result (λ kept. kept ≡ content) }
+    {
+        Content::of_encoding(Vec::from_slice(alloc, encoding)?)
+    }
+
     /// The encoding.
     fn encoding(&self) -> &[u8]
         ensures encoding { result.now ≡ content_message self.now }

@@ -28,6 +28,7 @@ pub struct GetAsk {
 
 impl GetAsk {
     /// Asks for a key of the default type, and for nothing else.
+    #[inline(always)]
     pub fn plain(alloc: Global, bucket: &[u8], key: &[u8]) -> Result<GetAsk, AllocError>
         ensures { IfOk result (λ ask. ask ≡ plain_get bucket.now key.now) }
     {

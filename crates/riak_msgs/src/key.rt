@@ -69,6 +69,7 @@ impl PartialOrd for Key {
 
 impl Key {
     /// A key of the default type.
+    #[inline(always)]
     pub fn of_default_type(alloc: Global, bucket: &[u8], key: &[u8]) -> Result<Key, AllocError>
         ensures { IfOk result (λ named. named ≡ default_key bucket.now key.now) }
     {

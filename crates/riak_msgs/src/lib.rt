@@ -18,8 +18,9 @@
 //! [`write_request`] give it, and what is written is read again ([`replies_are_read_again`], [`requests_are_read_again`]).
 //! [`Reply::body_len`] and [`Reply::append_body`] give it in parts, for a frame that is made in one buffer.
 //!
-//! Reading is one scan over the fields as they lie ([`pb_fields::scan`]), in which each message has its step for one field,
-//! and then a copy of each kept field. A put's links and pairs are scanned once more for each of their numbers of which the first scan
+//! Most clients write requests in this one encoding, with lengths below 16,384. Such a get, put or delete is read straight, field by
+//! field in their order, and its content is copied as it lies. Any other body is scanned: one scan over the fields as they lie
+//! ([`pb_fields::scan`]), in which each message has its step for one field, and then a copy of each kept field. A put's links and pairs are scanned once more for each of their numbers of which the first scan
 //! met some, and are encoded one after another, without a list of them. Writing counts the bytes first, takes one buffer of that size, and writes them once. A content is encoded when it is made,
 //! whatever the encoding that it came in, and kept so: a reply appends its bytes, and counts them by their length. A link or pair is
 //! counted once for its own length and once for that of the content. Reading and writing take time linear in the bytes. What is
@@ -54,6 +55,8 @@ mod link;
 mod pair;
 mod pairs_and_links;
 mod parts_encoder;
+mod plain_fields;
+mod plain_put;
 mod put;
 mod read_del;
 mod read_get;

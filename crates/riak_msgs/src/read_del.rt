@@ -4,6 +4,7 @@ ghost use Rattle.std.specs.Prelude.{◌≡◌, List, [], IfOk, OnErr};
 ghost use Rattle.pb_fields.specs.Field.{WireField};
 ghost use Rattle.pb_fields.specs.Merging.{RefusesNone, Tracks};
 ghost use Rattle.pb_fields.specs.Message.{Encodes};
+ghost use Rattle.riak_msgs.specs.PlainDeletes.{plain_del};
 ghost use Rattle.riak_msgs.specs.Reading.{Reads, del_of};
 ghost use Rattle.riak_msgs.specs.SeenRequests.{IsSeenDelOf};
 
@@ -11,7 +12,9 @@ use crate::context_bytes::ContextBytes;
 use crate::del::DelAsk;
 use crate::fault::MsgFault;
 use crate::field_access::keep_last;
+use crate::key::Key;
 use crate::key_view::KeyView;
+use crate::plain_fields::{first_context, first_names};
 use crate::request::Request;
 use pb_fields::{Field, FieldFault, Merge, scan};
 use std::alloc::{AllocError, Global};
@@ -21,8 +24,34 @@ const CONTEXT: u32 = 4;
 
 const BUCKET_TYPE: u32 = 13;
 
-/// Decodes the body of a delete.
+/// Decodes the body of a delete. One in the plain form is read straight, and a body of any other form is scanned.
 pub(crate) fn read_del(alloc: Global, body: &[u8]) -> Result<Request, MsgFault>
+    ensures { Reads 13 body.now result }
+{
+    let Some((bucket, key, behind)) = first_names(body) else {
+        return read_any_del(alloc, body);
+    };
+    let (context, rest) = first_context(4, behind);
+    if !rest.is_empty() {
+        return read_any_del(alloc, body);
+    }
+    Ok(Request::Del(plain_del(alloc, bucket, key, context)?))
+}
+
+/// A delete of a key of the default type, after what this context has seen.
+#[inline(always)]
+fn plain_del(alloc: Global, bucket: &[u8], key: &[u8], context: &[u8]) -> Result<DelAsk, AllocError>
+    ensures { IfOk result (λ ask. ask ≡ plain_del bucket.now key.now context.now) }
+{
+    Ok(DelAsk {
+        key: Key::of_default_type(alloc, bucket, key)?,
+        context: ContextBytes::from_slice(alloc, context)?,
+    })
+}
+
+/// Decodes the body of a delete of any form.
+#[inline(never)]
+fn read_any_del(alloc: Global, body: &[u8]) -> Result<Request, MsgFault>
     ensures { Reads 13 body.now result }
 {
     let view = DelView::of(body)?;

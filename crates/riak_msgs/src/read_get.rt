@@ -4,6 +4,7 @@ ghost use Rattle.std.specs.Prelude.{◌≡◌, List, [], IfOk, OnErr};
 ghost use Rattle.pb_fields.specs.Field.{WireField};
 ghost use Rattle.pb_fields.specs.Merging.{RefusesNone, Tracks};
 ghost use Rattle.pb_fields.specs.Message.{Encodes};
+ghost use Rattle.riak_msgs.specs.PlainFields.{BeginsWithNames};
 ghost use Rattle.riak_msgs.specs.Reading.{Reads, get_of};
 ghost use Rattle.riak_msgs.specs.SeenRequests.{IsSeenGetOf};
 
@@ -11,7 +12,9 @@ use crate::context_bytes::ContextBytes;
 use crate::fault::MsgFault;
 use crate::field_access::{keep_flag, keep_last};
 use crate::get::GetAsk;
+use crate::key::Key;
 use crate::key_view::KeyView;
+use crate::plain_fields::{first_context, first_flag, first_names};
 use crate::request::Request;
 use pb_fields::{Field, FieldFault, Merge, scan};
 use std::alloc::{AllocError, Global};
@@ -25,8 +28,49 @@ const DELETED_VCLOCK: u32 = 9;
 
 const BUCKET_TYPE: u32 = 13;
 
-/// Decodes the body of a get.
+/// Decodes the body of a get. Names in the plain form are read straight, and so are the options behind them; a body of any other form is
+/// scanned.
 pub(crate) fn read_get(alloc: Global, body: &[u8]) -> Result<Request, MsgFault>
+    ensures { Reads 9 body.now result }
+{
+    let Some((bucket, key, rest)) = first_names(body) else {
+        return read_any_get(alloc, body);
+    };
+    if !rest.is_empty() {
+        return read_get_with_options(alloc, body, bucket, key, rest);
+    }
+    Ok(Request::Get(GetAsk::plain(alloc, bucket, key)?))
+}
+
+/// Decodes the body of a get that begins with these names, and behind them has these bytes.
+#[inline(never)]
+fn read_get_with_options(
+    alloc: Global,
+    body: &[u8],
+    bucket: &[u8],
+    key: &[u8],
+    options: &[u8],
+) -> Result<Request, MsgFault>
+    requires { BeginsWithNames body.now bucket.now key.now options.now }
+    ensures { Reads 9 body.now result }
+{
+    let (if_modified, flags) = first_context(7, options);
+    let (head, behind_head) = first_flag(8, flags);
+    let (deletedvclock, rest) = first_flag(9, behind_head);
+    if !rest.is_empty() {
+        return read_any_get(alloc, body);
+    }
+    Ok(Request::Get(GetAsk {
+        key: Key::of_default_type(alloc, bucket, key)?,
+        if_modified: ContextBytes::from_slice(alloc, if_modified)?,
+        head,
+        deletedvclock,
+    }))
+}
+
+/// Decodes the body of a get of any form.
+#[inline(never)]
+fn read_any_get(alloc: Global, body: &[u8]) -> Result<Request, MsgFault>
     ensures { Reads 9 body.now result }
 {
     let view = GetView::of(body)?;

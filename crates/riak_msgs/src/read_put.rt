@@ -16,6 +16,7 @@ use crate::fault::MsgFault;
 use crate::field_access::{bytes_at, keep_flag, keep_last};
 use crate::key_view::KeyView;
 use crate::parts_encoder::{PartKind, PartsEncoder};
+use crate::plain_put::PlainPut;
 use crate::put::PutAsk;
 use crate::request::Request;
 use pb_fields::{Field, FieldFault, Merge, scan};
@@ -80,8 +81,19 @@ impl PutFlags {
     }
 }
 
-/// Decodes the body of a put.
+/// Decodes the body of a put. One in the plain form is read straight, and a body of any other form is scanned.
 pub(crate) fn read_put(alloc: Global, body: &[u8]) -> Result<Request, MsgFault>
+    ensures { Reads 11 body.now result }
+{
+    let Some(plain) = PlainPut::of(body) else {
+        return read_any_put(alloc, body);
+    };
+    Ok(Request::Put(plain.ask(alloc)?))
+}
+
+/// Decodes the body of a put of any form.
+#[inline(never)]
+fn read_any_put(alloc: Global, body: &[u8]) -> Result<Request, MsgFault>
     ensures { Reads 11 body.now result }
 {
     let view = PutView::of(body)?;

@@ -38,8 +38,8 @@ pub enum Request {
 /// - `NoKey`: a put names no key, and none is made up for it.
 /// - `NoMemory`: memory was refused; all others are found without taking any.
 ///
-/// Bodies are walked over as they lie, and what is kept is copied once; the time is linear in the bytes. Sources:
-/// `riak_kv.proto` of Riak's Protocol Buffers client API, and the Protocol Buffers encoding.
+/// A body that is the one encoding of its request, as most clients write it, is read straight; any other is walked over as it lies. What
+/// is kept is copied once; the time is linear in the bytes. Sources: `riak_kv.proto` of Riak's Protocol Buffers client API, and the Protocol Buffers encoding.
 pub fn read_request(alloc: Global, code: u8, body: &[u8]) -> Result<Request, MsgFault>
     ensures said { Reads code body.now result }
 {

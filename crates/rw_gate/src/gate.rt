@@ -21,11 +21,11 @@ const MAX_AWAKE_ATTEMPTS: u32 = 16;
 
 /// A state that many may read or one may write, with the history of its changes.
 ///
-/// A life of a gate round a `Counter`, whose asks raise it:
+/// A life of a gate round a `GatedCounter`, whose asks raise it:
 ///
 /// | Call | Answer | State | History |
 /// |---|---|---|---|
-/// | `gate = Gate::new(alloc, Counter { value: 0 })` | a gate | 0, in place | none |
+/// | `gate = Gate::new(alloc, GatedCounter { value: 0 })` | a gate | 0, in place | none |
 /// | `ann = gate.pass()` | `ann.seen()` is 0 | | |
 /// | `right = gate.try_write()` | a right | 0, in hand | |
 /// | `gate.try_read()`, `gate.try_write()`, `gate.mark()` | `None`, `None`, `false` | | |

@@ -14,7 +14,7 @@ pub enum Plan<C, R> {
 ///
 /// An ask that changes something is answered in two steps. `prepare` plans it: it may take memory and may refuse, and leaves the
 /// content as it was. `apply` makes the change: it takes no memory and cannot refuse. Between them the change becomes an event of the
-/// history, and the event holds what was asked and what is answered. `Counter` is the smallest example.
+/// history, and the event holds what was asked and what is answered. `GatedCounter` is the smallest example.
 pub trait Kept: Drop {
     /// What may be asked. It is let go where it is not handed to `prepare`.
     type Ask: Drop;

@@ -5,7 +5,7 @@
 //! at one atomic exchange, `WriteRight::publish`, and the history has then just one event more, with the reply that was answered.
 //!
 //! ```text
-//! let gate = Gate::new(alloc, Counter { value: 0 })?;
+//! let gate = Gate::new(alloc, GatedCounter { value: 0 })?;
 //! let mut pass = gate.pass();         // pass.seen() is 0
 //! let mut right = gate.write(rt);     // the counter is in hand, and no one else is in
 //! right.look(&mut pass)               // Ok: the counter 0

@@ -1,7 +1,7 @@
 //! The text of a schedule: one step a line, and one line for each outcome.
 //!
-//! A line is a word, one space and a worker's number in decimal; `ask` and `reap` have one more space and a request,
-//! its message code and its body, in lower-case hexadecimal. Behind `divert` stands a partition's index, behind `close` a worker's number and such an index. [`read_line`] reads one as the step that it asks for
+//! A line names a step and the worker that takes it, as `enter 1`. Behind the worker of an `ask` or a `reap` stands a request: its
+//! message code and its body in lower-case hexadecimal. Behind `divert` stands a partition's index, behind `close` a worker's number and such an index. [`read_line`] reads one as the step that it asks for
 //! (`specs/Lines`), and a line asks for one step ([`a_line_asks_for_one_step`]). [`Lines`] cuts a text into its lines
 //! (`specs/Cuts`), and [`write_outcome`] writes the outcome of a step (`specs/Outcomes`).
 //!
