@@ -47,7 +47,7 @@ impl<'a, W: Wait, T: Turnstile, G: Ledger, P: Ledger, D: Ledger, E: Ledger, R: L
         let shared = self.shared;
         let gates = shared.handoff.gates();
         let gate = &gates[index];
-        let reserve = shared.reserve(self.reserve);
+        let reserve = self.reserve;
         let pass = &mut self.primaries[index];
         let answered = get_and_reap::<W, T, A>(
             self.rt,
@@ -99,7 +99,7 @@ impl<'a, W: Wait, T: Turnstile, G: Ledger, P: Ledger, D: Ledger, E: Ledger, R: L
             return Ok(self.get_error::<A>(Text::NoMemory, frame));
         }
         let shared = self.shared;
-        let reserve = shared.reserve(self.reserve);
+        let reserve = self.reserve;
         let kept = &mut self.fallbacks[index];
         match get_diverted::<W, T, A>(
             self.rt,

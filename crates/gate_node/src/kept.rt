@@ -4,7 +4,7 @@ ghost use Rattle.node_session.specs.PlainNodes.{partition_of};
 
 use crate::node::GateNode;
 use crate::partition_cache::PartitionCache;
-use crate::reserve::Reserve;
+use crate::reserve::{Reserve, ReserveOf};
 use crate::turnstile::Turnstile;
 use riak_msgs::Key;
 use std::sync::Wait;
@@ -21,10 +21,10 @@ impl<'a, W: Wait, T: Turnstile, G: Ledger, P: Ledger, D: Ledger, E: Ledger, R: L
     R,
 > {
     /// This node with memory kept back for what doesn't make its vnodes grow. It takes no memory.
-    pub fn with_reserve(mut self, reserve: &'a Reserve) -> Self
+    pub fn with_reserve(mut self, reserve: &'a Reserve<'a>) -> Self
         ensures { result ≡ self.entry }
     {
-        self.reserve = Some(reserve);
+        self.reserve = ReserveOf::lent(reserve);
         self
     }
 

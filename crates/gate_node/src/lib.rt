@@ -83,7 +83,7 @@ pub use laws::{
 pub use node::GateNode;
 pub use partition_cache::PartitionCache;
 pub use passes::{HasPasses, Passes};
-pub use reserve::Reserve;
+pub use reserve::{GivenUp, Reserve};
 pub use ring_map::Ring;
 pub use shared::Shared;
 pub use tallies::{RunTallies, tallies_of};

@@ -12,7 +12,7 @@ use crate::diverted::change_diverted;
 use crate::gated_vnode::{catch_up, change_and_reap};
 use crate::partition_cache::PartitionCache;
 use crate::passes::{FallbackPass, Passes, make_places};
-use crate::reserve::Reserve;
+use crate::reserve::ReserveOf;
 use crate::shared::Shared;
 use crate::turnstile::Turnstile;
 use handoff::Fallback;
@@ -57,7 +57,7 @@ pub struct GateNode<
     /// A place for each partition, once a fallback was met; none before.
     pub(crate) fallbacks: Vec<Option<FallbackPass>>,
     /// What the thread keeps back, if anything.
-    pub(crate) reserve: Option<&'a Reserve>,
+    pub(crate) reserve: ReserveOf<'a>,
     /// The partitions of the keys that the thread met, if it remembers them.
     pub(crate) partitions: Option<&'a PartitionCache>,
 }
@@ -136,7 +136,7 @@ impl<'a, W: Wait, T: Turnstile, G: Ledger, P: Ledger, D: Ledger, E: Ledger, R: L
             primaries,
             size,
             fallbacks,
-            reserve: None,
+            reserve: ReserveOf::none(),
             partitions: None,
         }
     }

@@ -65,12 +65,7 @@ impl<'a, W: Wait, T: Turnstile, G: Ledger, P: Ledger, D: Ledger, E: Ledger, R: L
         scratch: &mut Scratch,
     ) -> FramedReply {
         match request {
-            Request::Ping => put_whole(
-                self.shared.reserve(self.reserve),
-                Reply::Ping,
-                out,
-                scratch,
-            ),
+            Request::Ping => put_whole(self.reserve, Reply::Ping, out, scratch),
             Request::Get(get) => {
                 let index = self.index(&get.key);
                 self.get::<FramedGet>(alloc, index, &get, out, scratch)
@@ -79,21 +74,21 @@ impl<'a, W: Wait, T: Turnstile, G: Ledger, P: Ledger, D: Ledger, E: Ledger, R: L
             Request::Put(put) => {
                 let index = self.index(&put.key);
                 let reply = self.change(alloc, index, Ask::Put(put));
-                put_whole(self.shared.reserve(self.reserve), reply, out, scratch)
+                put_whole(self.reserve, reply, out, scratch)
             }
             Request::Del(del) => {
                 let index = self.index(&del.key);
                 let reply = self.change(alloc, index, Ask::Del(del));
-                put_whole(self.shared.reserve(self.reserve), reply, out, scratch)
+                put_whole(self.reserve, reply, out, scratch)
             }
         }
     }
 
     fn admits(&self, alloc: Global, request: &Request) -> bool {
-        self.shared.reserve(self.reserve).admits(alloc, request)
+        self.reserve.admits(alloc, request)
     }
 
     fn make_room(&self, _alloc: Global) -> bool {
-        self.shared.reserve(self.reserve).give_up()
+        self.reserve.give_up()
     }
 }

@@ -4,14 +4,13 @@ ghost use Rattle.handoff.specs.Partitions.{AreMadeNew, AreNone, AreOfNewRun};
 ghost use Rattle.gate_node.specs.Gates.{handoff_of};
 
 use crate::fault::PoolFault;
-use crate::reserve::{Reserve, ReserveOf};
 use crate::turnstile::Turnstile;
 use handoff::Handoff;
 use ring_map::Ring;
 use rw_gate::Gate;
 use std::alloc::Global;
 use std::marker::Model;
-use std::sync::atomic::{AtomicU64, AtomicUsize, Ordering};
+use std::sync::atomic::{AtomicU64, Ordering};
 use vnode_core::Vnode;
 
 /// The gates of a run, one round the vnode of each partition of a ring, with the fallbacks of those that are diverted, and what all
@@ -31,8 +30,6 @@ pub struct Shared {
     reads: u64,
     /// How many calls have passed a turnstile that sees them. It may wrap.
     calls: AtomicU64,
-    /// How many threads have given up what they keep back.
-    given_up: AtomicUsize,
 }
 
 /// One call at each place where one is let go.
@@ -43,7 +40,6 @@ impl Drop for Shared {
             budget: _budget,
             reads: _reads,
             calls: _calls,
-            given_up: _given_up,
         } = self;
     }
 }
@@ -108,15 +104,6 @@ impl Shared {
             budget,
             reads,
             calls: AtomicU64::new(0),
-            given_up: AtomicUsize::new(0),
-        }
-    }
-
-    /// What a thread keeps back, as it is asked for.
-    pub(crate) fn reserve<'a>(&'a self, reserve: Option<&'a Reserve>) -> ReserveOf<'a> {
-        ReserveOf {
-            reserve,
-            given_up: &self.given_up,
         }
     }
 
@@ -136,7 +123,6 @@ impl Shared {
             budget: _,
             reads: _,
             calls: _,
-            given_up: _,
         } = self;
         handoff
     }

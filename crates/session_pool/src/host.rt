@@ -58,7 +58,7 @@ pub struct Host<
     pub(crate) turnstile: &'a T,
     pub(crate) pause: &'a Q,
     /// What each worker keeps, in the workers' order.
-    pub(crate) kept: &'a [KeptByWorker],
+    pub(crate) kept: &'a [KeptByWorker<'a>],
     pub(crate) of: PhantomData<H>,
     pub(crate) readers: PhantomData<R>,
     pub(crate) writers: PhantomData<W>,
@@ -143,7 +143,7 @@ where
     /// Gives the worker's reserve up, where it has one.
     fn make_room(&self, _alloc: Global, worker: &Tray<G, P, D, E, L>) -> bool {
         match self.kept.get(worker.place) {
-            Some(kept) => kept.reserve.give_up(self.shared),
+            Some(kept) => kept.reserve.give_up(),
             None => false,
         }
     }

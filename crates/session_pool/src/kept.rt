@@ -1,7 +1,7 @@
 //! What the workers of a run keep for themselves.
 ghost use Rattle.std.specs.Prelude.{◌≡◌, length, IfOk};
 
-use gate_node::{GateNode, PartitionCache, Reserve, Ring, Turnstile};
+use gate_node::{GateNode, GivenUp, PartitionCache, Reserve, Ring, Turnstile};
 use std::alloc::{AllocError, Global};
 use std::sync::ledger::Ledger;
 use std::sync::{Mutex, Wait};
@@ -10,15 +10,15 @@ use std::sync::{Mutex, Wait};
 const PLACES: usize = 8_192;
 
 /// What a worker keeps, and lends to the nodes of its sessions.
-pub(crate) struct KeptByWorker {
+pub(crate) struct KeptByWorker<'a> {
     /// What it keeps back, of which nothing is there at first.
-    pub(crate) reserve: Reserve,
+    pub(crate) reserve: Reserve<'a>,
     /// The partitions of the keys that it met. None where there is one partition.
     pub(crate) partitions: Option<PartitionCache>,
 }
 
 /// One call at each place where one is let go.
-impl Drop for KeptByWorker {
+impl<'a> Drop for KeptByWorker<'a> {
     fn drop(self) {
         let KeptByWorker {
             reserve: _reserve,
@@ -27,29 +27,29 @@ impl Drop for KeptByWorker {
     }
 }
 
-impl KeptByWorker {
-    /// Of a worker on this ring.
-    fn new(alloc: Global, ring: Ring) -> KeptByWorker {
+impl<'a> KeptByWorker<'a> {
+    /// Of a worker on this ring, whose run counts so what is given up.
+    fn new(alloc: Global, ring: Ring, given_up: &'a GivenUp) -> KeptByWorker<'a> {
         let mut partitions = None;
         if ring.size() > 1 {
             partitions = Some(PartitionCache::new(alloc, ring, PLACES));
         }
         KeptByWorker {
-            reserve: Reserve::new(alloc),
+            reserve: Reserve::new(alloc, given_up),
             partitions,
         }
     }
 }
 
 /// What the workers of a run keep, in their order.
-pub(crate) struct Kept {
-    pub(crate) workers: Vec<KeptByWorker>,
+pub(crate) struct Kept<'a> {
+    pub(crate) workers: Vec<KeptByWorker<'a>>,
     /// Whose reserve is being filled has it.
     pub(crate) filling: Mutex<()>,
 }
 
 /// One call at each place where one is let go.
-impl Drop for Kept {
+impl<'a> Drop for Kept<'a> {
     fn drop(self) {
         let Kept {
             workers: _workers,
@@ -58,13 +58,18 @@ impl Drop for Kept {
     }
 }
 
-/// What so many workers keep on this ring.
-pub(crate) fn new_kept(alloc: Global, ring: Ring, count: usize) -> Result<Kept, AllocError>
+/// What so many workers keep on this ring, of whose reserves this counts what is given up.
+pub(crate) fn new_kept<'a>(
+    alloc: Global,
+    ring: Ring,
+    count: usize,
+    given_up: &'a GivenUp,
+) -> Result<Kept<'a>, AllocError>
     ensures { IfOk result (λ kept. length kept.workers.items ≡ count) }
 {
     let mut workers = Vec::with_capacity(alloc, count)?;
     for _ in 0..count {
-        workers.push(KeptByWorker::new(alloc, ring))?;
+        workers.push(KeptByWorker::new(alloc, ring, given_up))?;
     }
     Ok(Kept {
         workers,
@@ -84,7 +89,7 @@ pub(crate) fn kept_by<
     L: Ledger,
 >(
     node: GateNode<'a, X, T, G, P, D, E, L>,
-    worker: Option<&'a KeptByWorker>,
+    worker: Option<&'a KeptByWorker<'a>>,
 ) -> GateNode<'a, X, T, G, P, D, E, L>
     ensures { result ≡ node.entry }
 {

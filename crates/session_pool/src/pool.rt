@@ -19,7 +19,7 @@ use crate::served::Served;
 use crate::settle::{new_places, settle};
 use crate::station::stations_of;
 use crate::suspended::Suspended;
-use gate_node::{Passes, PoolFault, Shared, Turnstile};
+use gate_node::{GivenUp, Passes, PoolFault, Shared, Turnstile};
 use job_pool::{Bell, Jobs, RunFault, StreamReadiness, run_at};
 use stats_book::{Blanks, open_stocks};
 use std::alloc::Global;
@@ -98,7 +98,8 @@ where
     else {
         return Err(PoolFault::NoMemory);
     };
-    let Ok(kept) = new_kept(alloc, shared.handoff().ring(), seats.len()) else {
+    let given_up = GivenUp::new();
+    let Ok(kept) = new_kept(alloc, shared.handoff().ring(), seats.len(), &given_up) else {
         return Err(PoolFault::NoMemory);
     };
     let Ok(places) = new_places(alloc, seats.len()) else {

@@ -35,7 +35,7 @@ fn new_station<'a, H, I, O, K, D, B, G, P, L, E, R>(
     stock: Stock<G, P, L, E, R>,
     seat: Seat<K, D, B>,
     place: usize,
-    kept: &'a Kept,
+    kept: &'a Kept<'a>,
 ) -> Result<StationOf<'a, H, I, O, K, D, B, G, P, L, E, R>, PoolFault>
 where
     H: OfGates,
@@ -79,7 +79,7 @@ pub(crate) fn stations_of<'a, H, I, O, K, D, B, G, P, L, E, R>(
     shared: &Shared,
     stocks: Vec<Stock<G, P, L, E, R>>,
     seats: Vec<Seat<K, D, B>>,
-    kept: &'a Kept,
+    kept: &'a Kept<'a>,
 ) -> Result<Vec<StationOf<'a, H, I, O, K, D, B, G, P, L, E, R>>, PoolFault>
 where
     H: OfGates,

@@ -197,7 +197,7 @@ impl<R: Read, W: Write> Suspended<R, W> {
         book: &'a Book<G, P, D, E, L>,
         share: Share<G, P, D, E, L>,
         turnstile: &'a T,
-        kept: Option<&'a KeptByWorker>,
+        kept: Option<&'a KeptByWorker<'a>>,
     ) -> Stay<'a, X, T, R, W, G, P, D, E, L>
         requires unused { share ≡ zeros }
         requires later { CanGoOn shared.now self }

@@ -12,10 +12,11 @@ use std::sync::Wait;
 use std::sync::ledger::Ledger;
 
 /// What a worker waits with, which is shown the streams of a session; and the worker's reserve, which its own thread fills once all threads were
-/// started, one worker behind the other: an allocator may take much more for a thread for a moment than what it keeps.
+/// started, and again behind a wait where it was given up, one worker behind the other: an allocator may take much more for a thread for a moment
+/// than what it keeps.
 pub(crate) struct Watch<'a, Y> {
     streams: Y,
-    kept: &'a Kept,
+    kept: &'a Kept<'a>,
     /// Which of them is the worker.
     place: usize,
     is_filled: bool,
@@ -37,7 +38,7 @@ impl<'a, Y: Drop> Drop for Watch<'a, Y> {
 
 impl<'a, Y> Watch<'a, Y> {
     /// With a reserve that isn't filled yet.
-    pub(crate) fn new(alloc: Global, streams: Y, kept: &'a Kept, place: usize) -> Watch<'a, Y> {
+    pub(crate) fn new(alloc: Global, streams: Y, kept: &'a Kept<'a>, place: usize) -> Watch<'a, Y> {
         Watch {
             streams,
             kept,
@@ -47,16 +48,19 @@ impl<'a, Y> Watch<'a, Y> {
         }
     }
 
-    /// Fills the reserve, or as much of it as there is memory for, once that may be.
-    fn fill<V: Wait>(&mut self, rt: &V, may_take_memory: bool) {
-        if may_take_memory && !self.is_filled {
-            let held = self.kept.filling.lock(rt);
-            if let Some(worker) = self.kept.workers.as_slice().get(self.place) {
-                let _is_whole = worker.reserve.fill(self.alloc);
-            }
-            drop(held);
-            self.is_filled = true;
+    /// Fills the reserve, or as much of it as there is memory for: the first time that this may be, and where it was given up since then. So what a
+    /// worker without puts gave up doesn't burden the puts of others for longer than memory lacks.
+    fn fill<V: Wait>(&mut self, rt: &V) {
+        let Some(worker) = self.kept.workers.as_slice().get(self.place) else {
+            return;
+        };
+        if self.is_filled && !worker.reserve.is_given_up() {
+            return;
         }
+        let held = self.kept.filling.lock(rt);
+        let _is_whole = worker.reserve.fill(self.alloc);
+        drop(held);
+        self.is_filled = true;
     }
 }
 
@@ -94,7 +98,8 @@ where
 
     fn wait<V: Wait>(&mut self, rt: &V, is_idle: bool) {
         self.streams.wait(rt, is_idle);
-        let may_take_memory = self.streams.may_take_memory();
-        self.fill(rt, may_take_memory);
+        if self.streams.may_take_memory() {
+            self.fill(rt);
+        }
     }
 }

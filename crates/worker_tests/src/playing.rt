@@ -4,7 +4,7 @@ ghost use Rattle.stats_book.specs.Holdings.{AllAre};
 ghost use Rattle.gate_node.specs.Passes.{ArePassesOf};
 
 use crate::exchanges::NOTHING_COUNTED;
-use gate_node::{GateNode, PartitionCache, Passes, Reserve, Shared, Turnstile};
+use gate_node::{GateNode, GivenUp, PartitionCache, Passes, Reserve, Shared, Turnstile};
 use node_session::{Node, serve};
 use stats_book::{Blanks, Book, Quantity, Share, Totals, close};
 use std::alloc::Global;
@@ -75,7 +75,8 @@ fn serve_keeping<W: Wait, T: Turnstile, G: Ledger, P: Ledger, D: Ledger, E: Ledg
     requires { ArePassesOf shared.now passes }
     ensures { ArePassesOf shared.now result.1 }
 {
-    let reserve = Reserve::new(alloc);
+    let given_up = GivenUp::new();
+    let reserve = Reserve::new(alloc, &given_up);
     let node = GateNode::new(rt, shared, book, share, passes, turnstile);
     let partitions = PartitionCache::new(alloc, shared.handoff().ring(), 1);
     let mut kept = node.with_reserve(&reserve).with_partitions(&partitions);
