@@ -8,6 +8,7 @@ pub mod Reaping
 pub mod Registers
 pub mod Resuming
 pub mod Seeing
+pub mod Unchanged
 pub mod Unclosed
 pub mod Histories
 pub mod InHistories

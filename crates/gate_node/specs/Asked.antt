@@ -1,5 +1,5 @@
 -- What a request to one vnode behind a gate comes to, by what the caller's pass has seen and published.
-use Rattle.std.specs.Prelude.{◌≡◌, ◌≤◌, ◌⊎◌, ℕ, zero, suc, Option, Some, None}
+use Rattle.std.specs.Prelude.{◌≡◌, ◌≤◌, ◌⊎◌, ℕ, zero, suc, List, Option, Some, None}
 use mathlib.Core.List.{IsPrefix}
 use Rattle.riak_msgs.specs.Contents.{Content}
 use Rattle.riak_msgs.specs.declared.GetAsk.{GetAsk}
@@ -17,6 +17,7 @@ use Rattle.vnode_core.specs.declared.ask.Ask.{Ask}
 use Rattle.vnode_core.specs.declared.ask.Ask.TheVariants as asks
 use Rattle.vnode_core.specs.declared.ask.Answer.{Answer}
 use Rattle.vnode_core.specs.declared.ask.Answer.TheVariants as answers
+use Rattle.vnode_core.specs.declared.entry.Entry.{Entry}
 use Rattle.vnode_core.specs.declared.refusal.Refusal.{Refusal}
 use Rattle.vnode_core.specs.Plans.{IsAnsweredUnchanged, Refuses}
 use Rattle.vnode_core.specs.Refusals.{number_of}
@@ -25,12 +26,22 @@ use Rattle.sibling_register.specs.Refusals.{refusal_text}
 use Rattle.node_session.specs.PlainStep.{answer_reply, StepsBy}
 use Rattle.rw_gate.specs.declared.asking.AskOutcome.{AskOutcome}
 use Rattle.rw_gate.specs.declared.asking.AskOutcome.TheVariants.{Made, Told, Refused, Moved, Full}
-use Rattle.rw_gate.specs.Asking.{Comes, IsMade, IsSaid, IsOvertaken}
+use Rattle.rw_gate.specs.Asking.{Comes, IsMade, IsSaid, IsOvertaken, SeesUnder as SeesHistory}
 pub use Rattle.handoff.specs.Sights.{Sight, state_of}
 
 -- what came of an ask, an ask that was made, and what the machine says at the end of what was seen
 abbrev pub ComesOf : Ask → Sight → Sight → AskOutcome Answer Refusal → Type 0
 ComesOf = Comes state_of Makes IsAnsweredUnchanged Refuses EntryAsks AnsweredBy
+
+-- what was seen then beside the history of the vnode under a right to write
+abbrev pub SeesUnder : List Entry → Sight → AskOutcome Answer Refusal → Type 0
+SeesUnder = SeesHistory state_of Makes IsAnsweredUnchanged Refuses EntryAsks AnsweredBy
+
+-- what comes, in this state, of an ask that changes nothing
+abbrev pub ComesUnchanged : State Content → Ask → AskOutcome Answer Refusal → Type 0
+ComesUnchanged state ask (Told answer) = IsAnsweredUnchanged state ask answer
+ComesUnchanged state ask (Refused refusal) = Refuses state ask refusal
+ComesUnchanged state ask other = ⊥
 
 abbrev pub IsMadeBy : Ask → Sight → Sight → Answer → Type 0
 IsMadeBy = IsMade state_of Makes IsAnsweredUnchanged Refuses EntryAsks AnsweredBy

@@ -5,6 +5,7 @@ ghost use Rattle.gate_node.specs.Asked.{ChangesOpen, GetsOpen, HasSeenClose, IsC
 ghost use Rattle.gate_node.specs.Asked.{ComesOf, IsOfOpenVnode, IsShownOpen, ShowsOpen};
 ghost use Rattle.gate_node.specs.Passes.{AnswersAtFallback, AnswersBy, FindsClosed, FitsPartition, IsClosedBy};
 
+use crate::gated_vnode::ask_seen;
 use crate::get_answer::GetAnswer;
 use crate::passes::{FallbackPass, renew};
 use crate::replies::counted_reply;
@@ -13,7 +14,7 @@ use crate::shared::Shared;
 use crate::turnstile::Turnstile;
 use handoff::Fallback;
 use riak_msgs::{GetAsk, Reply, Text};
-use rw_gate::{AskOutcome, Gate, Pass, WriteRight, ask_shown};
+use rw_gate::{AskOutcome, Gate, Pass, WriteRight};
 use stats_book::Quantity;
 use std::alloc::Global;
 use std::sync::Wait;
@@ -84,6 +85,7 @@ fn ask_open_under(
     alloc: Global,
     pass: &mut Pass<Vnode>,
     change: Ask,
+    has_room: bool,
 ) -> Result<AskOutcome<Answer, Refusal>, (u64, Ask)>
     requires { pass.old.gate ≡ right.old.gate }
     ensures gate { pass.new.gate ≡ pass.old.gate }
@@ -97,7 +99,7 @@ fn ask_open_under(
         return Ok(AskOutcome::Moved);
     };
     match vnode.closed_at() {
-        None => Ok(ask_shown(right, alloc, pass, change)),
+        None => Ok(ask_seen(right, alloc, pass, change, has_room)),
         Some(number) => Err((number, change)),
     }
 }
@@ -109,6 +111,7 @@ fn answer_change_open<W: Wait, T: Turnstile>(
     alloc: Global,
     shared: &Shared,
     turnstile: &T,
+    reserve: ReserveOf<'_>,
     gate: &Gate<Vnode>,
     pass: &mut Pass<Vnode>,
     change: Ask,
@@ -120,9 +123,10 @@ fn answer_change_open<W: Wait, T: Turnstile>(
     ensures closed { IfErr result (λ back. IsClosedWith back.0 pass.old pass.new) }
     ensures same { IfErr result (λ back. back.1 ≡ change) }
 {
+    let has_room = reserve.has_room_for(alloc, &change);
     let mut right = gate.write(rt);
     shared.enter(turnstile);
-    let found = ask_open_under(&mut right, alloc, pass, change);
+    let found = ask_open_under(&mut right, alloc, pass, change, has_room);
     right.release();
     match found {
         Ok(outcome) => Ok(counted_reply(outcome)),
@@ -184,6 +188,7 @@ fn change_by<W: Wait, T: Turnstile>(
     alloc: Global,
     shared: &Shared,
     turnstile: &T,
+    reserve: ReserveOf<'_>,
     gate: &Gate<Vnode>,
     kept: &mut FallbackPass,
     change: Ask,
@@ -198,7 +203,16 @@ fn change_by<W: Wait, T: Turnstile>(
     if let Some(number) = kept.closed {
         return Err((number, change));
     }
-    match answer_change_open(rt, alloc, shared, turnstile, gate, &mut kept.pass, change) {
+    match answer_change_open(
+        rt,
+        alloc,
+        shared,
+        turnstile,
+        reserve,
+        gate,
+        &mut kept.pass,
+        change,
+    ) {
         Ok(answered) => Ok(answered),
         Err(back) => {
             kept.closed = Some(back.0);
@@ -254,6 +268,7 @@ pub(crate) fn change_diverted<W: Wait, T: Turnstile>(
     alloc: Global,
     shared: &Shared,
     turnstile: &T,
+    reserve: ReserveOf<'_>,
     fallback: &Fallback,
     kept: &mut Option<FallbackPass>,
     change: Ask,
@@ -266,7 +281,16 @@ pub(crate) fn change_diverted<W: Wait, T: Turnstile>(
 {
     renew(kept, fallback);
     match kept {
-        Some(kept) => change_by(rt, alloc, shared, turnstile, &fallback.gate, kept, change),
+        Some(kept) => change_by(
+            rt,
+            alloc,
+            shared,
+            turnstile,
+            reserve,
+            &fallback.gate,
+            kept,
+            change,
+        ),
         None => unreachable!(),
     }
 }

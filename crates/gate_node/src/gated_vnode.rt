@@ -1,19 +1,23 @@
 //! The requests to one vnode behind a gate.
 ghost use Rattle.std.specs.Prelude.{◌≡◌, nat_le, length};
 ghost use mathlib.Core.List.{IsPrefix};
+ghost use Rattle.rw_gate.specs.Histories.{IsReplayed};
+ghost use Rattle.vnode_core.specs.Events.{Makes};
+ghost use Rattle.vnode_core.specs.declared.ask.Ask.TheVariants.{Put};
 ghost use Rattle.gate_node.specs.Asked.{IsShownGet, Gets, Changes, ReapsUpTo, AnswersAndReaps};
+ghost use Rattle.gate_node.specs.Asked.{ComesOf, ComesUnchanged, SeesUnder, state_of};
 
 use crate::get_answer::GetAnswer;
 use crate::replies::counted_reply;
 use crate::reserve::ReserveOf;
 use crate::shared::Shared;
 use crate::turnstile::Turnstile;
-use riak_msgs::{GetAsk, Reply, Text};
-use rw_gate::{AskOutcome, Gate, Pass, ask, ask_under};
+use riak_msgs::{GetAsk, PutAsk, Reply, Text};
+use rw_gate::{AskOutcome, Gate, Pass, WriteRight, ask, ask_shown};
 use stats_book::Quantity;
 use std::alloc::Global;
 use std::sync::Wait;
-use vnode_core::{Ask, Vnode};
+use vnode_core::{Answer, Ask, Refusal, Vnode};
 
 /// A reply as it is handed on, what it is counted as, and how many dead keys were forgotten then.
 #[derive(Drop)]
@@ -59,6 +63,77 @@ fn answer_get<W: Wait, T: Turnstile, A: GetAnswer>(
     }
 }
 
+/// What comes of a put for which there is no memory: the first check that holds refuses it, and else that.
+fn outcome_without_memory(vnode: &Vnode, put: &PutAsk) -> AskOutcome<Answer, Refusal>
+    ensures { ComesUnchanged vnode.now.state (Put put.now) result }
+{
+    match vnode.refusal_without_memory(put) {
+        Some(refusal) => AskOutcome::Refused(refusal),
+        None => AskOutcome::Told(Answer::Closed),
+    }
+}
+
+/// Refuses a put for which there is no memory, under a right, which the caller gives back.
+fn refuse_put(
+    right: &WriteRight<'_, Vnode>,
+    pass: &mut Pass<Vnode>,
+    put: &PutAsk,
+) -> AskOutcome<Answer, Refusal>
+    requires { pass.old.gate ≡ right.now.gate }
+    ensures gate { pass.new.gate ≡ pass.old.gate }
+    ensures more { IsPrefix pass.old.prefix pass.new.prefix }
+    ensures outcome { ComesOf (Put put.now) pass.old pass.new result }
+    ensures under { SeesUnder right.now.history pass.new result }
+{
+    match right.look(pass) {
+        Ok(vnode) => outcome_without_memory(vnode, put),
+        Err(_) => AskOutcome::Moved,
+    }
+}
+
+/// Asks once under a right whose whole history the pass has seen, as a look has just shown it. A put that has no room is refused.
+pub(crate) fn ask_seen(
+    right: &mut WriteRight<'_, Vnode>,
+    alloc: Global,
+    pass: &mut Pass<Vnode>,
+    change: Ask,
+    has_room: bool,
+) -> AskOutcome<Answer, Refusal>
+    requires gate { pass.old.gate ≡ right.old.gate }
+    requires shown { pass.old.prefix ≡ right.old.history }
+    requires replay { IsReplayed state_of Makes right.old }
+    ensures gate { pass.new.gate ≡ pass.old.gate }
+    ensures more { IsPrefix pass.old.prefix pass.new.prefix }
+    ensures outcome { ComesOf change pass.old pass.new result }
+    ensures under { SeesUnder right.old.history pass.new result }
+{
+    if !has_room {
+        if let Ask::Put(put) = &change {
+            return refuse_put(right, pass, put);
+        }
+    }
+    ask_shown(right, alloc, pass, change)
+}
+
+/// Asks once under a right to write, which the caller gives back.
+fn ask_vnode(
+    right: &mut WriteRight<'_, Vnode>,
+    alloc: Global,
+    pass: &mut Pass<Vnode>,
+    change: Ask,
+    has_room: bool,
+) -> AskOutcome<Answer, Refusal>
+    requires { pass.old.gate ≡ right.old.gate }
+    ensures gate { pass.new.gate ≡ pass.old.gate }
+    ensures more { IsPrefix pass.old.prefix pass.new.prefix }
+    ensures outcome { ComesOf change pass.old pass.new result }
+{
+    if right.look(pass).is_err() {
+        return AskOutcome::Moved;
+    }
+    ask_seen(right, alloc, pass, change, has_room)
+}
+
 /// Answers what may change the vnode, under a right to write, behind the turnstile; and what that is counted as.
 #[inline(always)]
 fn answer_change<W: Wait, T: Turnstile>(
@@ -66,6 +141,7 @@ fn answer_change<W: Wait, T: Turnstile>(
     alloc: Global,
     shared: &Shared,
     turnstile: &T,
+    reserve: ReserveOf<'_>,
     gate: &Gate<Vnode>,
     pass: &mut Pass<Vnode>,
     change: Ask,
@@ -75,9 +151,10 @@ fn answer_change<W: Wait, T: Turnstile>(
     ensures more { IsPrefix pass.old.prefix pass.new.prefix }
     ensures answers { Changes change pass.old pass.new result.0 result.1 }
 {
+    let has_room = reserve.has_room_for(alloc, &change);
     let mut right = gate.write(rt);
     shared.enter(turnstile);
-    let outcome = ask_under(&mut right, alloc, pass, change);
+    let outcome = ask_vnode(&mut right, alloc, pass, change, has_room);
     right.release();
     counted_reply(outcome)
 }
@@ -144,6 +221,7 @@ pub(crate) fn change_and_reap<W: Wait, T: Turnstile>(
     alloc: Global,
     shared: &Shared,
     turnstile: &T,
+    reserve: ReserveOf<'_>,
     gate: &Gate<Vnode>,
     pass: &mut Pass<Vnode>,
     change: Ask,
@@ -153,7 +231,9 @@ pub(crate) fn change_and_reap<W: Wait, T: Turnstile>(
     ensures steps { AnswersAndReaps shared.now.budget result.reaps
         (λ p q. Changes change p q result.reply result.quantity) pass.old pass.new }
 {
-    let (reply, quantity) = answer_change(rt, alloc, shared, turnstile, gate, pass, change);
+    let (reply, quantity) = answer_change(
+        rt, alloc, shared, turnstile, reserve, gate, pass, change,
+    );
     let reaps = reap(rt, alloc, gate, pass, shared.budget);
     Answered {
         reply,

@@ -52,7 +52,7 @@
 //! where it hadn't seen as many events; later requests compare two numbers and are answered as where nothing was diverted.
 //!
 //! How it is built: a function that takes a right gives it back itself, as `rw_gate::ask` does for any state behind a gate,
-//! and what is done under a right to write is one function (`ask_under`). The reply and its quantity are made from what came of it
+//! and what is done under a right to write is one function (`ask_seen`). The reply and its quantity are made from what came of it
 //! (`specs/Asked`), so a change that was published is never answered or counted as refused.
 #![tactic(auto)]
 

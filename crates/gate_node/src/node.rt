@@ -181,8 +181,18 @@ impl<'a, W: Wait, T: Turnstile, G: Ledger, P: Ledger, D: Ledger, E: Ledger, R: L
         let shared = self.shared;
         let gates = shared.handoff.gates();
         let gate = &gates[index];
+        let reserve = self.reserve;
         let pass = &mut self.primaries[index];
-        let answered = change_and_reap(self.rt, alloc, shared, self.turnstile, gate, pass, change);
+        let answered = change_and_reap(
+            self.rt,
+            alloc,
+            shared,
+            self.turnstile,
+            reserve,
+            gate,
+            pass,
+            change,
+        );
         self.counter.count_answer(answered.quantity, answered.reaps);
         answered.reply
     }
@@ -215,12 +225,14 @@ impl<'a, W: Wait, T: Turnstile, G: Ledger, P: Ledger, D: Ledger, E: Ledger, R: L
             return Ok(self.answer_error(Text::NoMemory));
         }
         let shared = self.shared;
+        let reserve = self.reserve;
         let kept = &mut self.fallbacks[index];
         match change_diverted(
             self.rt,
             alloc,
             shared,
             self.turnstile,
+            reserve,
             fallback,
             kept,
             change,

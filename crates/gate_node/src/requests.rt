@@ -84,10 +84,6 @@ impl<'a, W: Wait, T: Turnstile, G: Ledger, P: Ledger, D: Ledger, E: Ledger, R: L
         }
     }
 
-    fn admits(&self, alloc: Global, request: &Request) -> bool {
-        self.reserve.admits(alloc, request)
-    }
-
     fn make_room(&self, _alloc: Global) -> bool {
         self.reserve.give_up()
     }

@@ -1,9 +1,9 @@
 //! Memory that a thread keeps back for what doesn't make the vnodes of its run grow.
 
-use riak_msgs::Request;
 use std::alloc::{AllocError, Global};
 use std::sync::Mutex;
 use std::sync::atomic::{AtomicBool, AtomicUsize, Ordering};
+use vnode_core::Ask;
 
 /// How many pages are kept back.
 const PAGES: usize = 128;
@@ -23,7 +23,7 @@ const LONG_LEN: usize = 65_520;
 /// It is half a MiB, of which nothing is ever written: in long blocks where memory is to be had so, else in pages, as they lie between what
 /// deletes and reaps have left. Each thread has one of its own, since an allocator keeps what is freed for the thread that had it; the nodes
 /// of all its sessions are lent that one. Where memory is refused for a get, for a request's bytes, a reply's or a connection, its thread
-/// gives all of it up and tries once more. A put is asked only where all of it is there, or could be made again. So puts end before the
+/// gives all of it up and tries once more. A put is accepted only where all of it is there, or could be made again. So puts end before the
 /// memory is used up for good, and go on by themselves once there is room.
 ///
 /// ```text
@@ -141,7 +141,7 @@ impl<'a> Reserve<'a> {
         true
     }
 
-    /// Whether a put may be asked: all of it is there, or could be made again, and where other threads have given up theirs, there is memory for
+    /// Whether a put may be accepted: all of it is there, or could be made again, and where other threads have given up theirs, there is memory for
     /// one of these too.
     fn admits_put(&self, alloc: Global) -> bool {
         let is_whole = self.pages.load(Ordering::SeqCst) == PAGES || self.fill(alloc);
@@ -176,7 +176,7 @@ impl<'a> ReserveOf<'a> {
         }
     }
 
-    /// Whether a put may be asked, as it may where the thread keeps nothing back.
+    /// Whether a put may be accepted, as it may where the thread keeps nothing back.
     fn admits_put(&self, alloc: Global) -> bool {
         match self.reserve {
             Some(reserve) => reserve.admits_put(alloc),
@@ -192,15 +192,15 @@ impl<'a> ReserveOf<'a> {
         }
     }
 
-    /// Whether there is memory for a request.
-    pub(crate) fn admits(&self, alloc: Global, request: &Request) -> bool {
-        match request {
-            Request::Put(_) => self.admits_put(alloc),
-            Request::Del(_) => {
+    /// Whether there is memory for what is asked, as there is for all but a put.
+    pub(crate) fn has_room_for(&self, alloc: Global, ask: &Ask) -> bool {
+        match ask {
+            Ask::Put(_) => self.admits_put(alloc),
+            Ask::Del(_) => {
                 self.make_room(alloc);
                 true
             }
-            Request::Ping | Request::Get(_) => true,
+            Ask::Reap(_) | Ask::ReapFirst(_) | Ask::Copy(_) | Ask::Close(_) => true,
         }
     }
 }

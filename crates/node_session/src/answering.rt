@@ -2,8 +2,6 @@
 
 ghost use Rattle.std.specs.Prelude.{◌≡◌, [], None};
 ghost use Rattle.riak_msgs.specs.Reading.{Reads};
-ghost use Rattle.riak_msgs.specs.declared.reply.Reply.TheVariants.{Error};
-ghost use Rattle.riak_msgs.specs.declared.text.Text.TheVariants.{NoMemory};
 ghost use Rattle.node_session.specs.Answers.{Answers};
 ghost use Rattle.node_session.specs.Taking.{TakesNext};
 ghost use Rattle.node_session.specs.Unsent.{PutsReply};
@@ -16,7 +14,7 @@ use crate::reply_frame::ReplyFrame;
 use crate::scratch::Scratch;
 use ghost_state::{GhostList, Listing};
 use pb_frame::{Frame, FrameFault, Framer};
-use riak_msgs::{MsgFault, Request, Text, read_request};
+use riak_msgs::{MsgFault, Request, read_request};
 use std::alloc::Global;
 
 /// The code of a ping, which is one whatever its body.
@@ -38,14 +36,6 @@ fn decode<N: Node>(alloc: Global, code: u8, body: &[u8], node: &N) -> Result<Req
     }
 }
 
-/// Refuses a request for which there is no memory, and lets it go.
-fn refuse(_request: Request, out: &mut ReplyFrame) -> FramedReply
-    ensures reply { result.reply ≡ Error NoMemory }
-    ensures put { PutsReply (Error NoMemory) out.new result.put }
-{
-    put_error(Text::NoMemory, out)
-}
-
 /// Answers a message, and puts the frame of the reply.
 #[inline(always)]
 fn answer<N: Node>(
@@ -65,12 +55,7 @@ fn answer<N: Node>(
         return node.answer_into(alloc, Request::Ping, out, scratch);
     }
     match decode(alloc, code, body, &*node) {
-        Ok(request) => {
-            if !node.admits(alloc, &request) {
-                return refuse(request, out);
-            }
-            node.answer_into(alloc, request, out, scratch)
-        }
+        Ok(request) => node.answer_into(alloc, request, out, scratch),
         Err(fault) => put_error(message_fault_text(fault), out),
     }
 }

@@ -190,10 +190,6 @@ impl<'a, W: Wait, T: Turnstile, G: Ledger, P: Ledger, D: Ledger, E: Ledger, L: L
         framed
     }
 
-    fn admits(&self, alloc: Global, request: &Request) -> bool {
-        self.node.admits(alloc, request)
-    }
-
     fn make_room(&self, alloc: Global) -> bool {
         self.node.make_room(alloc)
     }

@@ -23,6 +23,7 @@ mod copying;
 mod deleting;
 mod keys;
 mod reaping;
+mod refusing;
 mod showing;
 mod tally;
 
@@ -214,7 +215,7 @@ impl<S: ClockStore> VnodeOver<S> {
     }
 
     /// Checks a put by what was found of its key; returns who makes it.
-    fn check_put(
+    pub(crate) fn check_put(
         &self,
         put: &PutAsk,
         found: Option<&StoredClock>,

@@ -13,4 +13,4 @@ returns-in-None-clause-unclosed c =
     let right = c.args.right.now in
     let leads = subst (λ (g : GateId View). RunFrom state_of Makes g.opening right.history right.state.state) (sym (c.look.ensures.gate ∙ c.requires)) c.look.ensures.replay in
     let opened : right.state.state.closed ≡ None = sym (c.closed_at.ensures ∙ ap (λ (v : View). v.state.closed) c.in-Ok.ensures.shown) ∙ c.in-None.is in
-    comes_open c.args.change c.look.new.pass c.ask_shown.new.pass right.history right.state.state c.ask_shown.result c.ask_shown.ensures.outcome leads opened c.ask_shown.ensures.under
+    comes_open c.args.change c.look.new.pass c.ask_seen.new.pass right.history right.state.state c.ask_seen.result c.ask_seen.ensures.outcome leads opened c.ask_seen.ensures.under
