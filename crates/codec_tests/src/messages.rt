@@ -1,6 +1,7 @@
 //! Messages as their bytes. What is wanted was taken from the message tables of the API, or computed by hand.
 
 mod contents;
+mod plain_requests;
 mod reading;
 mod refusals;
 mod replies;
