@@ -6,11 +6,13 @@ use Rattle.std.specs.Net.Addr.{ipv4_octets}
 use Rattle.std.specs.declared.net.ip_addr.IpAddr.{IpAddr}
 use Rattle.std.specs.declared.net.ip_addr.IpAddr.TheVariants.{V4, V6}
 use Rattle.std.specs.declared.net.parser.AddrParseError.{AddrParseError}
-use Rattle.clap.specs.Matches.{matched_of, one_text, subcommand_name_of, ReadsOne}
+use Rattle.clap.specs.Matches.{first_value, matched_of, one_text, subcommand_name_of, ReadsOne}
 use Rattle.clap.specs.Walk.{rows_of}
 use Rattle.clap.specs.Simple.{subcommand_rows_of}
 use Rattle.clap.specs.declared.parser.matches.ArgMatches.{ArgMatches}
 use Rattle.clap.specs.declared.parser.matches.Found.{Found}
+use Rattle.riak_node.specs.declared.connection_lines.ConnectionLines.{ConnectionLines}
+use Rattle.riak_node.specs.declared.connection_lines.ConnectionLines.TheVariants.{All, Ends, Neither}
 use Rattle.riak_node.specs.declared.subcommand.PipeOptions.{PipeOptions}
 use Rattle.riak_node.specs.declared.subcommand.ServeOptions.{ServeOptions}
 use Rattle.riak_node.specs.declared.subcommand.StepsOptions.{StepsOptions}
@@ -27,6 +29,12 @@ abbrev pub IsLocalhost : Option IpAddr → Type 0
 IsLocalhost (Some (V4 address)) = ipv4_octets address ≡ 127 ∷ 0 ∷ 0 ∷ 1 ∷ []
 IsLocalhost (Some (V6 address)) = ⊥
 IsLocalhost None = ⊥
+
+-- the word for these lines of single connections
+abbrev pub word_of : ConnectionLines → List ℕ
+word_of All = codes "all"
+word_of Ends = codes "ends"
+word_of Neither = codes "none"
 
 module _ (found : Found) where
   -- the number of an option: the one that was given, where it lies between these two, and this one where none was
@@ -50,6 +58,11 @@ module _ (found : Found) where
     pub absent : is_some (matched_of found (codes "address")) ≡ false → IsLocalhost address
     pub given : is_some (matched_of found (codes "address")) ≡ true → (text : List ℕ) → one_text found (codes "address") ≡ Some text → ReadsOne {E = AddrParseError} (Parses IsIpText) text address
 
+  -- which lines of single connections the log has: those of the word that was given, and all where none was
+  pub record AreConnectionLines (lines : ConnectionLines) : Type 0 where
+    pub absent : first_value found (codes "log") ≡ None → lines ≡ All
+    pub given : (named : ConnectionLines) → first_value found (codes "log") ≡ Some (word_of named) → lines ≡ named
+
   pub record ArePipeOptions (options : PipeOptions) : Type 0 where
     pub ring : IsNumber 0 65535 (codes "ring") 1 options.ring
     pub run : IsNumber 1 4294967295 (codes "run") 1 options.run
@@ -70,6 +83,7 @@ module _ (found : Found) where
     pub until_eof : IsFlag (codes "until-eof") options.until_eof
     pub control : IsFlag (codes "control") options.control
     pub control_port : IsNumberIfGiven 65535 (codes "control-port") options.control_port
+    pub lines : AreConnectionLines options.lines
     pub serving : AreServingOptions options.serving
 
   pub record AreStepsOptions (options : StepsOptions) : Type 0 where

@@ -58,6 +58,7 @@ fn serve<'a>(alloc: Global) -> Result<clap::Command<'a>, AllocError> {
         .arg(options::until_eof(alloc))?
         .arg(options::control(alloc))?
         .arg(options::control_port(alloc)?)?
+        .arg(options::log(alloc))?
         .arg(options::connections(alloc))?
         .arg(options::workers(alloc))?
         .arg(options::ring(alloc, "64"))?

@@ -1,93 +1,130 @@
 //! Log lines on standard error, which are passed over where nobody reads it.
 
-ghost use Rattle.std.specs.Prelude.{Some, [], true};
-
+use crate::connection_lines::ConnectionLines;
+use crate::log_line::LogLine;
+use crate::log_output::LogOutput;
 use crate::log_time::write_time;
-use crate::watch::{STANDARD_ERROR, Watch};
 use log::kv::Source;
-use log::sink::Console;
 use log::span::Spans;
-use log::{Log, Metadata, Record};
-use mio::Interest;
-use std::alloc::Global;
+use log::{Line, Log, Metadata, Record};
 use std::fmt::Display;
-use std::net::Net;
+use std::io::Write;
 use std::rt::Clock;
 use std::sync::{Mutex, Wait};
-use std::time::Duration;
 
-/// Tells whether a line may be written without waiting, and how many lines weren't, since the last one that was.
+/// What is written of the log, and how many lines weren't since it was said last.
 #[derive(Drop)]
 struct Drain {
-    watch: Option<Watch>,
+    output: LogOutput,
+    /// The line of which a part may be left, which goes out before the next.
+    last: LogLine,
     passed_over: u64,
 }
 
 impl Drain {
-    /// Of standard error. A file is never waited for, and can't be watched; neither is anything where the system refuses the watch.
-    fn new<R: Net>(net: &R, alloc: Global) -> Drain {
+    /// To this output, to which nothing is written yet.
+    fn new(output: LogOutput) -> Drain {
         Drain {
-            watch: Watch::new(net, alloc, STANDARD_ERROR, Interest::WRITABLE),
+            output,
+            last: LogLine::new(),
             passed_over: 0,
         }
     }
 
-    /// Whether a line of up to 4,096 bytes may be written without waiting. A pipe tells so while one of its pages is free.
-    fn takes_a_line(&mut self) -> bool {
-        match &mut self.watch {
-            Some(watch) => watch.is_ready(Duration::from_millis(0)),
-            None => true,
+    /// Writes what is left of the last line. Whether nothing is left of it then.
+    fn finish_last(&mut self) -> bool {
+        if !self.last.unwritten().is_empty() {
+            self.output.write(&mut self.last);
         }
+        self.last.unwritten().is_empty()
     }
-}
 
-/// A log on standard error, each line behind its time, that nobody waits for: where it is full, as a pipe is that nobody reads, lines are passed over. How many, the next line
-/// that is written is told by one before it.
-#[derive(Drop)]
-pub(crate) struct DrainedConsole<R: Wait> {
-    rt: R,
-    drain: Mutex<Drain>,
-}
-
-impl<R: Net + Wait> DrainedConsole<R> {
-    /// On the standard error of the runtime.
-    pub(crate) fn new(rt: R, alloc: Global) -> DrainedConsole<R> {
-        let drain = Drain::new(&rt, alloc);
-        DrainedConsole {
-            rt,
-            drain: Mutex::new(drain),
+    /// Writes a line, or a part of it, of which the rest is kept, where nothing is left of the last one. Whether anything of it went out.
+    fn put(&mut self, mut line: LogLine) -> bool {
+        if !self.finish_last() || !self.output.write(&mut line) {
+            return false;
         }
-    }
-}
-
-impl<R: Clock + Eprint + Wait> Log for DrainedConsole<R> {
-    ghost enables = { λ _ _ _. Some true };
-
-    ghost target_of = { λ _. Some [] };
-
-    fn enabled(&self, _metadata: &Metadata<'_>) -> bool {
+        if !line.unwritten().is_empty() {
+            self.last = line;
+        }
         true
     }
 
-    fn log<D: Display, K: Source, S: Spans>(&self, record: &Record<'_, D, K, S>) {
-        let mut drain = self.drain.lock(&self.rt);
-        if !drain.takes_a_line() {
-            drain.passed_over = drain.passed_over.saturating_add(1);
-            return;
+    /// Tells how many lines were passed over, if any were. Whether that is told.
+    fn tell_passed_over<R: Clock>(&mut self, rt: &R) -> bool {
+        let passed_over = self.passed_over;
+        if passed_over == 0 {
+            return true;
         }
-        let passed_over = drain.passed_over;
-        if passed_over > 0 {
-            drain.passed_over = 0;
-            write_time(&self.rt);
-            let _ = eprintln!(self.rt;
-                "[WARN  riak_node] {passed_over} log lines were passed over: standard error was full"
-            );
+        let mut line = LogLine::new();
+        write_time(rt, &mut line);
+        let _cut = write!(
+            line,
+            "[WARN  riak_node] {passed_over} log lines were passed over: standard error was full"
+        );
+        line.end();
+        let is_told = self.put(line);
+        if is_told {
+            self.passed_over = 0;
         }
-        write_time(&self.rt);
-        Console(&self.rt).log(record);
+        is_told
     }
 
-    fn flush(&self) {}
+    /// Writes a line behind how many were passed over before it, or passes it over.
+    fn write_line<R: Clock>(&mut self, rt: &R, line: LogLine) {
+        if !self.tell_passed_over(rt) || !self.put(line) {
+            self.passed_over = self.passed_over.saturating_add(1);
+        }
+    }
+}
+
+/// A log on standard error, each line behind its time, that nobody waits for: where it is full, as a pipe or a terminal is that nobody reads, lines are passed over. How many, the
+/// next line that is written is told by one before it, and `flush` tells it too. It takes no memory: a line of more than 4,096 bytes is cut.
+#[derive(Drop)]
+pub(crate) struct DrainedConsole<R: Wait> {
+    rt: R,
+    lines: ConnectionLines,
+    drain: Mutex<Drain>,
+}
+
+impl<R: Wait> DrainedConsole<R> {
+    /// To this output, with these lines of single connections.
+    pub(crate) fn new(rt: R, output: LogOutput, lines: ConnectionLines) -> DrainedConsole<R> {
+        DrainedConsole {
+            rt,
+            lines,
+            drain: Mutex::new(Drain::new(output)),
+        }
+    }
+}
+
+impl<R: Clock + Wait> Log for DrainedConsole<R> {
+    ghost use Rattle.std.specs.Prelude.{Some, []};
+
+    ghost target_of = { λ _. Some [] };
+
+    fn enabled(&self, metadata: &Metadata<'_>) -> bool {
+        self.lines.have(metadata.level(), metadata.target())
+    }
+
+    fn log<D: Display, K: Source, S: Spans>(&self, record: &Record<'_, D, K, S>) {
+        if !self.lines.have(record.level(), record.target()) {
+            return;
+        }
+        let mut line = LogLine::new();
+        write_time(&self.rt, &mut line);
+        let _cut = write!(line, "{}", Line::new(record));
+        line.end();
+        let mut drain = self.drain.lock(&self.rt);
+        drain.write_line(&self.rt, line);
+    }
+
+    /// Writes what is left of the last line, and how many were passed over since it was told last, as far as that can be done without waiting.
+    fn flush(&self) {
+        let mut drain = self.drain.lock(&self.rt);
+        drain.finish_last();
+        drain.tell_passed_over(&self.rt);
+    }
 
     fn target(&self) -> &str {
         ""

@@ -37,10 +37,13 @@ ghost use Rattle.riak_node.specs.Conclusions.{status_of};
 mod command_line;
 mod commands;
 mod conclusion;
+mod connection_lines;
 mod control_port;
 mod drained_console;
 mod frame_counter;
 mod listeners;
+mod log_line;
+mod log_output;
 mod log_time;
 mod option_values;
 mod options;
@@ -57,6 +60,7 @@ use drained_console::DrainedConsole;
 use frame_counter::FrameCounter;
 use listeners::{control_port_of, listen};
 use log::{Level, Log, Logged};
+use log_output::LogOutput;
 use node_session::SessionFault;
 use ring_map::Ring;
 use schedule_player::StepsFault;
@@ -181,9 +185,12 @@ fn main(rt: HostRuntime) -> ExitCode {
         Ok(Subcommand::Steps(options)) => play_steps(&rt, options),
         Ok(Subcommand::Serve(options)) => match place_of(options) {
             Ok((ring, address)) => {
-                let logged = Logged::new(rt, Level::Info, DrainedConsole::new(rt, alloc));
+                let console = DrainedConsole::new(rt, LogOutput::new(&rt, alloc), options.lines);
+                let logged = Logged::new(rt, Level::Info, console);
                 let (input, output) = (rt.stdin(), rt.stdout());
-                serve_all(&logged, alloc, ring, address, options, input, output)
+                let conclusion = serve_all(&logged, alloc, ring, address, options, input, output);
+                logged.flush();
+                conclusion
             }
             Err(end) => end,
         },

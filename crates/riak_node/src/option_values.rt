@@ -2,9 +2,11 @@
 
 ghost use Rattle.std.specs.Prelude.{◌≤◌, codes, IfSome};
 ghost use Rattle.clap.specs.Matches.{found_of};
-ghost use Rattle.riak_node.specs.Options.{AreServingOptions, IsAddress, IsNumber, IsNumberIfGiven};
+ghost use Rattle.riak_node.specs.Options.{AreConnectionLines, AreServingOptions, IsAddress};
+ghost use Rattle.riak_node.specs.Options.{IsNumber, IsNumberIfGiven};
 ghost use Rattle.riak_node.specs.Options.{ArePipeOptions, AreServeOptions, AreStepsOptions, IsCommand};
 
+use crate::connection_lines::ConnectionLines;
 use crate::subcommand::{PipeOptions, ServeOptions, StepsOptions, Subcommand};
 use clap::ArgMatches;
 use node_commands::{ServingOptions, Waiting};
@@ -86,6 +88,17 @@ fn waiting(found: &ArgMatches<'_>) -> Waiting
     }
 }
 
+/// Which lines of single connections the log has.
+fn lines(found: &ArgMatches<'_>) -> ConnectionLines
+    ensures { AreConnectionLines (found_of found.now) result }
+{
+    match found.get_str("log") {
+        Some("ends") => ConnectionLines::Ends,
+        Some("none") => ConnectionLines::Neither,
+        _ => ConnectionLines::All,
+    }
+}
+
 /// How `serve` serves its connections.
 fn serving_options(found: &ArgMatches<'_>) -> ServingOptions
     ensures { AreServingOptions (found_of found.now) result }
@@ -110,6 +123,7 @@ fn serve_options(found: &ArgMatches<'_>) -> ServeOptions
         until_eof: found.get_flag("until-eof"),
         control: found.get_flag("control"),
         control_port: found.get_one::<u16>("control-port"),
+        lines: lines(found),
         serving: serving_options(found),
     }
 }

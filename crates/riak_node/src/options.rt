@@ -97,6 +97,18 @@ pub(crate) fn control_port<'a>(alloc: Global) -> Result<Arg<'a>, AllocError> {
         .conflicts_with("until-eof")
 }
 
+/// Which lines of single connections the log has.
+pub(crate) fn log<'a>(alloc: Global) -> Arg<'a> {
+    Arg::new(alloc, "log")
+        .long("log")
+        .value_name("LINES")
+        .value_parser(ValueParser::Names(&["all", "ends", "none"]))
+        .default_value("all")
+        .help(
+            "Which lines of single connections the log on standard error has: all, one when it comes and one when it has ended; ends, that alone; none. Warnings of the server itself always come",
+        )
+}
+
 /// The port.
 pub(crate) fn port<'a>(alloc: Global) -> Arg<'a> {
     number(

@@ -2,6 +2,7 @@
 
 ghost use Rattle.std.specs.Prelude.{◌≤◌};
 
+use crate::connection_lines::ConnectionLines;
 use node_commands::ServingOptions;
 use std::net::IpAddr;
 
@@ -43,6 +44,8 @@ pub struct ServeOptions {
     pub control: bool,
     /// The port of this machine's address to itself to which an operator's clients come, if they do; 0 for a free one.
     pub control_port: Option<u16>,
+    /// Which lines of single connections the log has.
+    pub lines: ConnectionLines,
     /// How they are served.
     pub serving: ServingOptions,
 }
