@@ -7,18 +7,19 @@ use crate::control_port::ControlPort;
 use crate::watch::STANDARD_ERROR;
 use log::{Log, warn};
 use std::alloc::Global;
-use std::net::{IpAddr, Ipv4Addr, Net, TcpListener, TcpStream};
-use std::os::fd::AsRawFd;
+use std::net::{IpAddr, Ipv4Addr, Net, SocketAddr, TcpListener, TcpStream};
+use std::os::fd::{AsRawFd, OwnedFd};
 
-/// A listener on this address and port. None where there is none, and where a standard stream was closed before the program began: sockets
-/// would get its descriptor, and what is printed or logged would go to clients. The log says why.
+/// A listener on this address and port, at whose door as many connections may wait as the system allows. None where there is none, and where a standard stream was closed before the
+/// program began: sockets would get its descriptor, and what is printed or logged would go to clients. The log says why.
 pub(crate) fn listen<R: Log + Net<Listener = TcpListener, Stream = TcpStream>>(
     rt: &R,
     address: IpAddr,
     port: u16,
 ) -> Option<TcpListener> {
-    let listener = match TcpListener::bind(rt, (address, port)) {
-        Ok(listener) => listener,
+    // a listener of the standard library has 128 wait at most
+    let listener = match mio::net::TcpListener::bind(rt, SocketAddr::new(address, port)) {
+        Ok(listener) => TcpListener::from(OwnedFd::from(listener)),
         Err(error) => {
             warn!(rt; "cannot listen on {address}, port {port}: {error}");
             return None;
