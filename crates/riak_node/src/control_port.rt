@@ -1,7 +1,9 @@
 //! The port to which an operator's clients come.
 
 ghost use Rattle.std.specs.Prelude.{None};
+ghost use Rattle.std.specs.Io.{ReadsAtMost};
 
+use crate::operator::{Operator, WAIT_MILLIS, dismiss};
 use crate::watch::Watch;
 use mio::Interest;
 use std::alloc::Global;
@@ -11,75 +13,46 @@ use std::net::{Net, TcpListener, TcpStream};
 use std::os::fd::AsRawFd;
 use std::time::Duration;
 
-/// How long a read waits at most, in milliseconds.
-const WAIT_MILLIS: u64 = 100;
-
-/// How long an answer waits at most for a client that doesn't read, in milliseconds.
-const ANSWER_MILLIS: u64 = 1_000;
-
 /// How many bytes are gathered for one write: more than an answer has.
 const ANSWER_LEN: usize = 256;
 
-/// Who is connected, if anybody is.
+/// What a client is told that comes while another is connected.
+const BUSY: &[u8] = b"refused: another operator is connected\n";
+
+/// How many bytes of a client are read at most before it is looked whether another has come.
+const LOOK_BYTES: u32 = 256;
+
+/// How many clients are turned away at one look, at most.
+const MAX_TURNED_AWAY: u32 = 64;
+
+/// How often it is looked at most whether who is connected has gone, before one who came meanwhile is turned away.
+const MAX_LOOKS: u32 = 1_000;
+
+/// Who came while another was connected that had lines left to be read, and so may have gone by then.
 #[derive(Drop)]
-struct Client {
-    stream: Option<TcpStream>,
+struct Newcomer {
+    stream: TcpStream,
+    looks: u32,
 }
 
-/// A read waits 100 ms at most. A client that has gone is closed, and the read is as where nothing has come.
-impl Read for Client {
-    fn read(&mut self, buf: &mut [u8]) -> io::Result<usize> {
-        let Some(stream) = &mut self.stream else {
-            return Err(ErrorKind::WouldBlock.into());
-        };
-        match stream.read(buf) {
-            Ok(count) if count > 0 || buf.is_empty() => return Ok(count),
-            Ok(_) => {}
-            Err(error) => match error.kind() {
-                ErrorKind::Interrupted | ErrorKind::WouldBlock => return Err(error),
-                _ => {}
-            },
-        }
-        self.stream = None;
-        Err(ErrorKind::WouldBlock.into())
-    }
-}
-
-/// What can't be written to a client within a second is passed over, and the client is closed; so is what is written to nobody.
-impl Write for Client {
-    ghost contents = { λ _. None };
-
-    fn write(&mut self, buf: &[u8]) -> io::Result<usize> {
-        let Some(stream) = &mut self.stream else {
-            return Ok(buf.len());
-        };
-        match stream.write(buf) {
-            Ok(count) => return Ok(count),
-            Err(error) => {
-                if error.kind() == ErrorKind::Interrupted {
-                    return Err(error);
-                }
-            }
-        }
-        self.stream = None;
-        Ok(buf.len())
-    }
-
-    fn flush(&mut self) -> io::Result<()> {
-        Ok(())
-    }
-}
-
-/// A port to which an operator's clients come, one behind another: while one is connected the next ones wait, until it closes its connection, or doesn't read an
-/// answer for a second and is closed. Their connections are one channel, which has no end.
+/// A port to which an operator's clients come, one at a time: who comes while another is connected is told so, and closed. Their connections are one channel, which has no end.
 ///
-/// A read returns `WouldBlock` where nothing has come within 100 ms, so that who reads can end before the clients do; and `ConnectionReset`
+/// - Who is connected stays so until it closes its connection, doesn't read an answer for a second, or has written nothing for a minute when another comes. An operator may leave a
+///   terminal open for as long as nobody else needs the console, and none is kept out for longer by one that was forgotten.
+/// - A line with a byte that no command has, as each request of HTTP begins with, is the last that is read of a client: the client is closed once that line was answered.
+/// - A descriptor is kept back for an operator who comes where clients of the node have all others.
+///
+/// A read returns one byte at most, and `WouldBlock` where nothing has come within 100 ms, so that who reads can end before the clients do; and `ConnectionReset`
 /// where the next client has come, so that what it writes isn't joined to a line that the one before left half written. An answer to a client that has gone is passed over.
 #[derive(Drop)]
 pub(crate) struct ControlPort {
     listener: TcpListener,
     watch: Option<Watch>,
-    client: BufWriter<Client>,
+    client: BufWriter<Operator>,
+    newcomer: Option<Newcomer>,
+    spare: Option<TcpListener>,
+    /// How many bytes were read since the last look for others.
+    read_bytes: u32,
 }
 
 impl ControlPort {
@@ -90,13 +63,16 @@ impl ControlPort {
         listener: TcpListener,
     ) -> Option<ControlPort> {
         listener.set_nonblocking(true).ok()?;
-        let nobody = Client { stream: None };
-        let client = BufWriter::with_capacity(alloc, ANSWER_LEN, nobody).ok()?;
+        let client = BufWriter::with_capacity(alloc, ANSWER_LEN, Operator::nobody()).ok()?;
         let watch = Watch::new(net, alloc, listener.as_raw_fd(), Interest::READABLE);
+        let spare = listener.try_clone().ok();
         Some(ControlPort {
             listener,
             watch,
             client,
+            newcomer: None,
+            spare,
+            read_bytes: 0,
         })
     }
 
@@ -107,31 +83,101 @@ impl ControlPort {
         writer.flush()
     }
 
-    /// The next client, if one comes within 100 ms. Where the system has no descriptor for it, it waits on.
-    fn accept(&mut self) -> io::Result<TcpStream> {
+    /// Keeps a descriptor back again, where it was let go.
+    fn keep_spare(&mut self) {
+        if self.spare.is_none() {
+            self.spare = self.listener.try_clone().ok();
+        }
+    }
+
+    /// The next client, if one has come: where the system has no descriptor for it, by the one that is kept back.
+    fn accept(&mut self) -> Option<TcpStream> {
+        let error = match self.listener.accept() {
+            Ok((stream, _)) => return Some(stream),
+            Err(error) => error,
+        };
+        if error.kind() == ErrorKind::WouldBlock || self.spare.is_none() {
+            return None;
+        }
+        self.spare = None;
+        match self.listener.accept() {
+            Ok((stream, _)) => Some(stream),
+            Err(_) => None,
+        }
+    }
+
+    /// The next client, if one comes within 100 ms.
+    fn wait_for_client(&mut self) -> Option<TcpStream> {
+        if let Some(newcomer) = self.newcomer.take() {
+            return Some(newcomer.stream);
+        }
         if let Some(watch) = &mut self.watch {
             if !watch.is_ready(Duration::from_millis(WAIT_MILLIS)) {
-                return Err(ErrorKind::WouldBlock.into());
+                return None;
             }
         }
-        let (stream, _) = self.listener.accept()?;
-        stream.set_nodelay(true)?;
-        stream.set_read_timeout(Some(Duration::from_millis(WAIT_MILLIS)))?;
-        stream.set_write_timeout(Some(Duration::from_millis(ANSWER_MILLIS)))?;
-        Ok(stream)
+        self.accept()
+    }
+
+    /// Turns a client away that came while another is connected, unless that one has been silent for a minute, or may have gone.
+    fn meet(&mut self, newcomer: Newcomer) {
+        let operator = self.client.get_mut();
+        if newcomer.looks < MAX_LOOKS && !operator.is_quiet() || operator.end_if_silent() {
+            self.newcomer = Some(newcomer);
+        } else {
+            dismiss(newcomer.stream, BUSY);
+        }
+    }
+
+    /// Meets those who have come while somebody is connected.
+    fn look_for_others(&mut self) {
+        self.read_bytes = 0;
+        self.keep_spare();
+        if let Some(newcomer) = self.newcomer.take() {
+            let looks = newcomer.looks.saturating_add(1);
+            self.meet(Newcomer { looks, ..newcomer });
+        }
+        for _ in 0..MAX_TURNED_AWAY {
+            if self.newcomer.is_some() || !self.client.get_ref().is_there() {
+                return;
+            }
+            let Some(stream) = self.accept() else {
+                return;
+            };
+            self.meet(Newcomer { stream, looks: 0 });
+            self.keep_spare();
+        }
+    }
+
+    /// Reads of who is connected, and looks for others at each line's end, and where nothing has come.
+    fn read_client(&mut self, buf: &mut [u8]) -> io::Result<usize>
+        ensures { ReadsAtMost result buf.new }
+    {
+        let read = self.client.get_mut().read(buf);
+        self.read_bytes = self.read_bytes.saturating_add(1);
+        let is_due = match &read {
+            Ok(_) => self.read_bytes >= LOOK_BYTES || buf.first() == Some(&b'\n'),
+            Err(_) => true,
+        };
+        if is_due {
+            self.look_for_others();
+        }
+        read
     }
 }
 
 impl Read for ControlPort {
     fn read(&mut self, buf: &mut [u8]) -> io::Result<usize> {
-        if self.client.get_ref().stream.is_some() {
-            return self.client.get_mut().read(buf);
+        self.client.get_mut().end_if_refused();
+        if self.client.get_ref().is_there() {
+            return self.read_client(buf);
         }
-        match self.accept() {
-            Ok(stream) => {
-                self.client.get_mut().stream = Some(stream);
-                Err(ErrorKind::ConnectionReset.into())
-            }
+        self.keep_spare();
+        let Some(stream) = self.wait_for_client() else {
+            return Err(ErrorKind::WouldBlock.into());
+        };
+        match self.client.get_mut().begin(stream) {
+            Ok(()) => Err(ErrorKind::ConnectionReset.into()),
             Err(_) => Err(ErrorKind::WouldBlock.into()),
         }
     }

@@ -45,6 +45,7 @@ mod listeners;
 mod log_line;
 mod log_output;
 mod log_time;
+mod operator;
 mod option_values;
 mod options;
 mod serving;
