@@ -1,5 +1,7 @@
 //! How many of the frames that are written behind a buffer went out.
 
+ghost use Rattle.std.specs.Prelude.{◌<◌, length, IfSome};
+
 use std::io;
 use std::io::Write;
 
@@ -49,10 +51,28 @@ impl FramesOut {
         }
     }
 
+    /// Takes note of a frame that these bytes begin with, where they have it whole and one begins there. What is behind it then.
+    #[inline(always)]
+    fn note_whole<'a>(&mut self, bytes: &'a [u8]) -> Option<&'a [u8]>
+        ensures shorter { IfSome result (λ rest. length rest.now < length bytes.now) }
+    {
+        let Place::Length { bytes: 0, .. } = self.place else {
+            return None;
+        };
+        let (number, behind) = bytes.split_first_chunk::<4>()?;
+        let rest = behind.get(u32::from_be_bytes(*number) as usize..)?;
+        self.whole = self.whole.saturating_add(1);
+        Some(rest)
+    }
+
     /// Takes note of bytes that went out.
     fn note(&mut self, bytes: &[u8]) {
         let mut rest = bytes;
         while let Some((first, more)) = rest.split_first() {
+            if let Some(behind) = self.note_whole(rest) {
+                rest = behind;
+                continue;
+            }
             match self.place {
                 Place::Length { bytes, number } => {
                     self.note_length(bytes, number, *first);
