@@ -14,7 +14,7 @@ use std::os::fd::AsRawFd;
 use std::time::Duration;
 
 /// How many bytes are gathered for one write: more than an answer has.
-const ANSWER_LEN: usize = 256;
+const ANSWER_LEN: usize = 512;
 
 /// What a client is told that comes while another is connected.
 const BUSY: &[u8] = b"refused: another operator is connected\n";

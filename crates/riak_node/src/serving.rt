@@ -11,11 +11,14 @@ use log::Log;
 use node_commands::{Controlled, ServeFault, ServedUntil, serve_as_asked, serve_as_controlled};
 use ring_map::Ring;
 use std::alloc::Global;
-use std::io::{Read, Write};
+use std::io::{BufWriter, Read, Write};
 use std::net::{Net, TcpListener};
 use std::rt::Clock;
 use std::sync::Wait;
 use std::thread::Threads;
+
+/// How many bytes are gathered for one write: more than a line has.
+const LINE_LEN: usize = 512;
 
 /// What came of serving.
 pub(crate) enum ServeOutcome<'a, T> {
@@ -52,6 +55,14 @@ fn input_of<R: Net, I: Drop>(
     }
 }
 
+/// A writer of lines to this output: each is one write, where it is flushed behind it.
+fn line_writer<O: Write + Drop>(alloc: Global, output: O) -> Result<BufWriter<O>, ServeFault> {
+    match BufWriter::with_capacity(alloc, LINE_LEN, output) {
+        Ok(writer) => Ok(writer),
+        Err(_) => Err(ServeFault::NoMemory),
+    }
+}
+
 /// Serves the connections of a listener on this ring while an operator is heard over this channel, as the options ask for.
 fn serve_by_console<'a, T, C, W>(
     rt: &'a T,
@@ -85,7 +96,7 @@ pub(crate) fn serve_by_options<'a, T, I, O>(
     options: ServeOptions,
     control: Option<ControlPort>,
     input: I,
-    mut output: O,
+    output: O,
 ) -> Result<ServeOutcome<'a, T>, ServeFault>
 where
     T: Log + Clock + Net + Threads + Wait + Sync,
@@ -94,19 +105,21 @@ where
     requires { is_some control ≡ is_some options.control_port }
     ensures { IfOk result (IsServedAs options ring) }
 {
+    let mut lines = line_writer(alloc, output)?;
     if let Some(port) = control {
-        let _unheard = port.announce(&mut output);
-        return serve_by_console(rt, alloc, listener, ring, options, port, &mut output);
+        let _unheard = port.announce(&mut lines);
+        return serve_by_console(rt, alloc, listener, ring, options, port, &mut lines);
     }
     if options.control {
-        let terminal = Terminal::new(WatchedInput::new(rt, alloc, input), output);
-        return serve_by_console(rt, alloc, listener, ring, options, terminal, &mut output);
+        let answers = line_writer(alloc, output)?;
+        let terminal = Terminal::new(WatchedInput::new(rt, alloc, input), answers);
+        return serve_by_console(rt, alloc, listener, ring, options, terminal, &mut lines);
     }
     let (serving, until) = (
         options.serving,
         input_of(rt, alloc, options.until_eof, input),
     );
-    match serve_as_asked(rt, alloc, listener, ring, serving, until, &mut output) {
+    match serve_as_asked(rt, alloc, listener, ring, serving, until, &mut lines) {
         Ok(outcome) => Ok(ServeOutcome::Asked(outcome)),
         Err(fault) => Err(fault),
     }
