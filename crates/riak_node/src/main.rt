@@ -51,6 +51,7 @@ mod options;
 mod serving;
 mod subcommand;
 mod terminal;
+mod until_end;
 mod watch;
 mod watched_input;
 

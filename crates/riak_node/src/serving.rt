@@ -6,6 +6,7 @@ ghost use Rattle.riak_node.specs.Serving.{AsksForConsole, IsServedAs};
 use crate::control_port::ControlPort;
 use crate::subcommand::ServeOptions;
 use crate::terminal::Terminal;
+use crate::until_end::UntilEnd;
 use crate::watched_input::WatchedInput;
 use log::Log;
 use node_commands::{Controlled, ServeFault, ServedUntil, serve_as_asked, serve_as_controlled};
@@ -108,7 +109,8 @@ where
     let mut lines = line_writer(alloc, output)?;
     if let Some(port) = control {
         let _unheard = port.announce(&mut lines);
-        return serve_by_console(rt, alloc, listener, ring, options, port, &mut lines);
+        let operator = UntilEnd::new(port, input_of(rt, alloc, options.until_eof, input));
+        return serve_by_console(rt, alloc, listener, ring, options, operator, &mut lines);
     }
     if options.control {
         let answers = line_writer(alloc, output)?;
