@@ -4,6 +4,7 @@ ghost use Rattle.slab.specs.Slab.{slab_len, HasRoomFor};
 ghost use Rattle.job_pool.specs.Ends.{HasWorked};
 
 use crate::queue::NumberedJob;
+use crate::readiness::{Readiness, Turn};
 use crate::seat::Seat;
 use crate::service::{Moved, Service};
 use crate::sink::Sink;
@@ -15,7 +16,7 @@ use std::marker::Model;
 use std::snapshot::Snapshot;
 
 /// How many steps a job takes at most before others have their turn: enough for some 300 short requests, so that a job mostly stops where it
-/// waits for more, and holds little then.
+/// waits for more, and holds little then. A turn whose steps cost more ends before, once its readiness says so.
 const MAX_STEPS_PER_TURN: u32 = 1024;
 
 /// The jobs that a worker has open, each in a slot, the worker's state, and what is told the ends.
@@ -185,16 +186,24 @@ impl<'a, S: Service, K: Sink<S> + Drop> Desk<'a, S, K> {
         Moved::Over
     }
 
-    /// Takes steps of the job in a slot until it ends or would have to wait, or others are to have their turn.
-    pub(crate) fn take_turn(&mut self, alloc: Global, slot: usize, may_wait: bool) -> Moved
+    /// Takes steps of the job whose turn it is until it ends or would have to wait, or others are to have their turn.
+    pub(crate) fn take_turn<D: Readiness<S>>(
+        &mut self,
+        alloc: Global,
+        turn: Turn,
+        waits: &mut D,
+    ) -> Moved
         ensures service { self.new.service ≡ self.old.service }
         ensures first { self.new.first ≡ self.old.first }
         ensures taken { self.new.taken ≡ self.old.taken }
     {
-        for _ in 0..MAX_STEPS_PER_TURN {
-            match self.step(alloc, slot, may_wait) {
+        for before in 0..MAX_STEPS_PER_TURN {
+            match self.step(alloc, turn.slot, turn.may_wait) {
                 Moved::Going => {}
                 moved => return moved,
+            }
+            if waits.ends_turn(turn.slot, before) {
+                return Moved::Going;
             }
         }
         Moved::Going

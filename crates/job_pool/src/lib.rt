@@ -23,7 +23,7 @@
 //! the same. A worker's desk has its open jobs in slots (`specs/Desks`): each job that it took is open, or its end was told, or it was
 //! refused, once. When it stops none is open. The leading thread joins it, learns by the rule that what it took are jobs that were
 //! given, and compares the counts: so none is lost. `run` is such a run whose sinks keep all ends; it lays each into the place of its
-//! number. What a worker waits with ([`Readiness`]) decides which slots have their turn, and no clause speaks of that. A source comes
+//! number. What a worker waits with ([`Readiness`]) decides which slots have their turn, and when that ends, and no clause speaks of that. A source comes
 //! by `&mut`, and no clause follows a `&mut` through a scope of threads, so it goes through as a value that comes back (`Lent`).
 //!
 //! ```text

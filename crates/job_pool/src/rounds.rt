@@ -86,6 +86,10 @@ impl<S: Service> Readiness<S> for Rounds {
         self.next_turn()
     }
 
+    fn ends_turn(&mut self, _slot: usize, _before: u32) -> bool {
+        false
+    }
+
     fn after(&mut self, _slot: usize, _moved: Moved) {}
 
     fn wait<T: Wait>(&mut self, rt: &T, is_idle: bool) {

@@ -21,6 +21,10 @@ pub trait StreamReadiness<R, W> {
     /// The next slot that is to have a turn. None where all that are ready had one.
     fn next(&mut self) -> Option<Turn>;
 
+    /// Whether the turn of a slot ends behind a step that its session can go on behind: it has cost enough, and others are to have theirs. `before` is
+    /// how many steps the turn had before that one. It is asked at each such step, so it is to be cheap.
+    fn ends_turn(&mut self, slot: usize, before: u32) -> bool;
+
     /// What came of the turn of a slot. Behind `Going` the slot is to have a further turn, and behind `Over` it is free.
     fn after(&mut self, slot: usize, moved: Moved);
 
@@ -45,6 +49,10 @@ impl<R, W> StreamReadiness<R, W> for Rounds {
 
     fn next(&mut self) -> Option<Turn> {
         self.next_turn()
+    }
+
+    fn ends_turn(&mut self, _slot: usize, _before: u32) -> bool {
+        false
     }
 
     fn after(&mut self, _slot: usize, _moved: Moved) {}

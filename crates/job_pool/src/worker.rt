@@ -128,7 +128,7 @@ fn take_turns<'a, S: Service, K: Sink<S> + Drop, D: Readiness<S>>(
     for _ in 0..u64::MAX {
         match waits.next() {
             Some(turn) => {
-                let moved = desk.take_turn(alloc, turn.slot, turn.may_wait);
+                let moved = desk.take_turn(alloc, turn, waits);
                 waits.after(turn.slot, moved);
             }
             None => return,

@@ -92,6 +92,10 @@ where
         self.streams.next()
     }
 
+    fn ends_turn(&mut self, slot: usize, before: u32) -> bool {
+        self.streams.ends_turn(slot, before)
+    }
+
     fn after(&mut self, slot: usize, moved: Moved) {
         self.streams.after(slot, moved);
     }

@@ -5,7 +5,7 @@ use std::io;
 use std::io::ErrorKind;
 use std::net::TcpStream;
 use std::sync::Arc;
-use std::sync::atomic::{AtomicBool, Ordering};
+use std::sync::atomic::{AtomicBool, AtomicUsize, Ordering};
 
 /// The socket of a connection, with what its worker was told of it. A read that takes fewer bytes than it has room for has taken all that came, so
 /// that the next one would have to wait: it needs no call of the system, until that reports something new. Where it has reported that the
@@ -19,6 +19,8 @@ pub(crate) struct Connection {
     is_ending: AtomicBool,
     /// Whether a read has met the end of what comes, or a call has failed: then its client sends nothing more.
     is_over: AtomicBool,
+    /// How many bytes were read and written in this turn. Its worker alone counts.
+    moved: AtomicUsize,
 }
 
 /// Whether an error says that the same call may go well later.
@@ -37,6 +39,7 @@ impl Connection {
             is_drained: AtomicBool::new(false),
             is_ending: AtomicBool::new(false),
             is_over: AtomicBool::new(false),
+            moved: AtomicUsize::new(0),
         }
     }
 
@@ -52,6 +55,7 @@ impl Connection {
             is_drained: _,
             is_ending: _,
             is_over: _,
+            moved: _,
         } = self;
         stream
     }
@@ -85,6 +89,22 @@ impl Connection {
         if is_over {
             self.is_over.store(true, Ordering::SeqCst);
         }
+    }
+
+    /// It begins a turn, in which nothing was read or written yet.
+    pub(crate) fn begin_turn(&self) {
+        self.moved.store(0, Ordering::Relaxed);
+    }
+
+    /// So many bytes were read or written.
+    pub(crate) fn note_moved(&self, bytes: usize) {
+        let moved = self.moved.load(Ordering::Relaxed).saturating_add(bytes);
+        self.moved.store(moved, Ordering::Relaxed);
+    }
+
+    /// How many bytes were read and written in this turn.
+    pub(crate) fn moved(&self) -> usize {
+        self.moved.load(Ordering::Relaxed)
     }
 
     /// Whether its client sends nothing more.

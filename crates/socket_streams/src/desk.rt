@@ -6,6 +6,7 @@ use crate::lingering::{LOOK_MILLIS, Lingering};
 use crate::pause::PAUSE_MILLIS;
 use crate::slots::{Patience, Slots};
 use crate::stop::Stop;
+use crate::turn_bound::TurnBound;
 use crate::waiting::{Spin, Waiting};
 use crate::waits::{WAKER, Waits};
 use crate::worker_clock::WorkerClock;
@@ -22,7 +23,7 @@ use std::{io, thread};
 
 /// What a worker waits with whose sessions are over sockets: for these and for its bell, with `mio`.
 ///
-/// A connection has a turn where its socket is ready. Where it was silent for too long, or serving is stopped, it has one ordinary turn, and where that
+/// A connection has a turn where its socket is ready, which ends once it has moved 64 KiB or taken a millisecond. Where it was silent for too long, or serving is stopped, it has one ordinary turn, and where that
 /// ends in waiting, turns in which it ends rather than wait. Once the run pauses, each connection has a turn, in which it is laid down. The worker takes
 /// a task where its bell was rung for one, and its stop mark once no connection is open and no socket lingers. In a run that pauses it doesn't wait for
 /// sockets that linger: they are closed with it. It takes no memory before its first task, and is woken once all threads of the run were started.
@@ -36,6 +37,7 @@ pub struct SocketDesk<'s, X> {
     waits: Waits,
     spin: Spin,
     slots: Slots,
+    bound: TurnBound,
     /// The sockets of connections that have ended while their clients may still be sending.
     lingering: Lingering,
     clock: WorkerClock,
@@ -65,6 +67,7 @@ impl<'s, X> Drop for SocketDesk<'s, X> {
             waits: _waits,
             spin: _spin,
             slots: _slots,
+            bound: _bound,
             lingering: _lingering,
             clock: _clock,
             now: _now,
@@ -122,6 +125,7 @@ impl<'s, X: Clock + Wait> SocketDesk<'s, X> {
             waits,
             spin: Spin::new(waiting.spin_micros),
             slots: Slots::new(alloc),
+            bound: TurnBound::new(),
             lingering: Lingering::new(rt, alloc),
             clock: WorkerClock::new(rt, waiting.idle_seconds),
             now: 0,
@@ -160,6 +164,7 @@ impl<'s, X: Clock + Wait> SocketDesk<'s, X> {
     /// The turn of a slot, of which the sink is to know whether it cuts the connection off.
     fn turn(&self, slot: usize, may_wait: bool) -> Turn {
         self.door.set_cutting(!may_wait);
+        self.slots.begin_turn(slot);
         Turn { slot, may_wait }
     }
 
@@ -337,6 +342,11 @@ impl<'s, X: Clock + Wait> StreamReadiness<RequestHalf, ReplyHalf> for SocketDesk
             Some(slot) => Some(self.turn(slot, false)),
             None => self.next_of_round(),
         }
+    }
+
+    fn ends_turn(&mut self, slot: usize, before: u32) -> bool {
+        let moved = self.slots.moved(slot);
+        self.bound.is_reached(self.rt, moved, before)
     }
 
     fn after(&mut self, slot: usize, moved: Moved) {

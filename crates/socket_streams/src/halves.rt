@@ -89,6 +89,7 @@ fn send(socket: &Socket, taken: &mut GhostList<u8>, bytes: &[u8]) -> io::Result<
     let came = stream.write(bytes);
     match &came {
         Ok(n) => {
+            socket.note_moved(*n);
             let more: (&GhostList<u8>, &[u8], usize) = (&*taken, bytes, *n);
             *taken = GhostList::listed::<(&GhostList<u8>, &[u8], usize), WithFirst>(&more);
         }
@@ -169,6 +170,7 @@ impl Read for RequestHalf {
         let came = stream.read(buf);
         socket.note_result(&came);
         let taken = came?;
+        socket.note_moved(taken);
         socket.note_read(taken, room);
         Ok(taken)
     }

@@ -16,7 +16,7 @@
 //! (`specs/Sessions`). [`LogSink`] was told just the ends that it was told. What comes over a socket, who is ready, whose turn it is, when a
 //! session rests, and what is logged, no clause says.
 //!
-//! What it costs: a connection takes a descriptor, its passes, and 72 bytes beside its session; its replies are gathered in up to
+//! What it costs: a connection takes a descriptor, its passes, and 80 bytes beside its session; its replies are gathered in up to
 //! 8,192 bytes until what was read is answered, and go out by one write; of a read that took less than it had room for the next needs no
 //! call of the system (`Connection`). A worker takes no memory before all threads are started.
 //!
@@ -41,6 +41,7 @@ mod sessions;
 mod slots;
 mod spare;
 mod stop;
+mod turn_bound;
 mod waiting;
 mod waits;
 mod worker_clock;

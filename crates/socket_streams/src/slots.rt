@@ -112,12 +112,33 @@ impl Slots {
         }
     }
 
-    /// Something was reported of the socket in a slot, or its next read is to be a call; perhaps that nothing comes behind what has come.
-    pub(crate) fn note_event(&self, slot: usize, is_ending: bool) {
-        if let Some(one) = self.slots.get(slot) {
-            if let Some(socket) = &one.socket {
-                socket.note_event(is_ending);
-            }
+    /// The socket of the connection in a slot; None where none is open.
+    fn socket(&self, slot: usize) -> Option<&Socket> {
+        match self.slots.get(slot) {
+            Some(one) => one.socket.as_ref(),
+            None => None,
+        }
+    }
+
+    /// Something was reported of the socket in a slot, or its next read is to be a call, and perhaps each one from now on.
+    pub(crate) fn note_event(&self, slot: usize, is_asked: bool) {
+        if let Some(socket) = self.socket(slot) {
+            socket.note_event(is_asked);
+        }
+    }
+
+    /// The connection in a slot begins a turn.
+    pub(crate) fn begin_turn(&self, slot: usize) {
+        if let Some(socket) = self.socket(slot) {
+            socket.begin_turn();
+        }
+    }
+
+    /// How many bytes the connection in a slot has read and written in its turn.
+    pub(crate) fn moved(&self, slot: usize) -> usize {
+        match self.socket(slot) {
+            Some(socket) => socket.moved(),
+            None => 0,
         }
     }
 

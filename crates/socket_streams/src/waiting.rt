@@ -31,7 +31,7 @@ pub(crate) struct Spin {
 }
 
 /// Whether no more than so many microseconds have gone by. Not so where the clock fails.
-fn is_within<X: Clock>(rt: &X, began: &Instant, micros: u32) -> bool {
+pub(crate) fn is_within<X: Clock>(rt: &X, began: &Instant, micros: u32) -> bool {
     match began.elapsed(rt) {
         Ok(elapsed) => elapsed.as_micros() <= u128::from(micros),
         Err(_) => false,

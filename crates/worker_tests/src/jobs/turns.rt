@@ -34,6 +34,8 @@ pub struct Row {
     load: usize,
     others: Option<(usize, usize)>,
     may_wait: bool,
+    /// Behind how many steps the readiness ends a turn.
+    most_steps: u32,
     /// No job has its turn before so many were opened.
     begun: u64,
     /// Whether a bell that is rung waits for the end of the job that it was rung for.
@@ -61,6 +63,7 @@ const ONE: Row = Row {
     load: 0,
     others: None,
     may_wait: true,
+    most_steps: u32::MAX,
     begun: 0,
     one_by_one: false,
     is_short: false,
@@ -83,6 +86,16 @@ const ROWS: &[Row] = &[
         shows: "a job that has to wait is waited for, and behind 1,024 steps others have their turn",
         jobs: &[LONG],
         going: 1,
+        waiting: 1,
+        steps: 2_000,
+        shown: 2_000,
+        ..ONE
+    },
+    Row {
+        shows: "a turn ends where its readiness says so, and its job has a further one",
+        jobs: &[LONG],
+        most_steps: 100,
+        going: 19,
         waiting: 1,
         steps: 2_000,
         shown: 2_000,

@@ -129,6 +129,10 @@ impl StreamReadiness<Input, Output> for InTurn {
         })
     }
 
+    fn ends_turn(&mut self, _slot: usize, _before: u32) -> bool {
+        false
+    }
+
     fn after(&mut self, _slot: usize, _moved: Moved) {}
 
     fn wait<T: Wait>(&mut self, rt: &T, is_idle: bool) {

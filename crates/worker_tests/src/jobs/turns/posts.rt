@@ -72,6 +72,13 @@ impl Readiness<Stepping<'_>> for Watched<'_> {
         })
     }
 
+    fn ends_turn(&mut self, slot: usize, before: u32) -> bool {
+        if slot.saturating_add(1) != self.next as usize {
+            self.seen.is_late.store(1, Ordering::SeqCst);
+        }
+        before.saturating_add(1) >= self.row.most_steps
+    }
+
     fn after(&mut self, slot: usize, moved: Moved) {
         if slot.saturating_add(1) != self.next as usize {
             self.seen.is_late.store(1, Ordering::SeqCst);
