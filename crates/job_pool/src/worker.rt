@@ -62,10 +62,14 @@ impl<S: Service, K: Sink<S>> Promise<WorkerOutput<S::Worker, S::Job, K>>
         p.worker.value work.left.worker };
 }
 
+/// How many tasks a worker takes at most before it gives those that it has their turns.
+const MAX_TASKS_PER_ROUND: u32 = 64;
+
 /// What a worker took out of the queue.
+#[derive(Clone, Copy, Drop)]
 enum Took {
-    /// A job, which was opened or refused.
-    Job,
+    /// Jobs, each of which was opened or refused.
+    Jobs,
     /// A stop mark.
     Stop,
     /// There was nothing.
@@ -105,7 +109,7 @@ where
                     waits.begin(slot, opened);
                 }
             }
-            Took::Job
+            Took::Jobs
         }
         Some(Task::Stop) => {
             to_leader.wake();
@@ -113,6 +117,45 @@ where
         }
         None => Took::Nothing,
     }
+}
+
+/// Takes the tasks out of the queue that are to be taken, and opens the jobs: until there is none, or a stop mark was taken, or 64 were, so that
+/// open jobs go on meanwhile.
+fn take_tasks<'a, H, S, K, D, T>(
+    rt: &T,
+    alloc: Global,
+    queue: &JobQueue<H, S::Job>,
+    pass: &mut QueuePass<S::Job>,
+    to_leader: &Leader,
+    desk: &mut Desk<'a, S, K>,
+    waits: &mut D,
+) -> Took
+where
+    H: Accepts<S::Job>,
+    S: Service,
+    K: Sink<S> + Drop,
+    D: Readiness<S>,
+    T: Wait,
+    requires queue { IsPassOf queue.now pass.old }
+    requires accepts { (job : S.Job) → H.accepts job → S.accepts desk.old.service job }
+    requires taken { desk.old.taken ≡ (view pass.old).taken }
+    ensures queue { IsPassOf queue.now pass.new }
+    ensures taken { desk.new.taken ≡ (view pass.new).taken }
+    ensures service { desk.new.service ≡ desk.old.service }
+    ensures first { desk.new.first ≡ desk.old.first }
+{
+    let mut took = Took::Nothing;
+    for _ in 0..MAX_TASKS_PER_ROUND {
+        if !waits.takes(desk.is_empty()) {
+            return took;
+        }
+        match take_task(rt, alloc, queue, pass, to_leader, desk, waits) {
+            Took::Jobs => took = Took::Jobs,
+            Took::Stop => return Took::Stop,
+            Took::Nothing => return took,
+        }
+    }
+    took
 }
 
 /// Gives each slot that is to have one a turn.
@@ -136,7 +179,7 @@ fn take_turns<'a, S: Service, K: Sink<S> + Drop, D: Readiness<S>>(
     }
 }
 
-/// One round of a worker: it takes a task, where it is to take one, and gives each job that is ready a turn. It waits where it took none, unless its last
+/// One round of a worker: it takes the tasks that it is to take, and gives each job that is ready a turn. It waits where it took none, unless its last
 /// job has just ended, or it has its stop mark and no job open: then nothing might wake it. Whether it has taken its stop mark.
 fn work_once<'a, H, S, K, D, T>(
     rt: &T,
@@ -163,9 +206,9 @@ where
     ensures first { desk.new.first ≡ desk.old.first }
 {
     let was_idle = desk.is_empty();
-    if !is_stopped && waits.takes(was_idle) {
-        match take_task(rt, alloc, queue, pass, to_leader, desk, waits) {
-            Took::Job => {
+    if !is_stopped {
+        match take_tasks(rt, alloc, queue, pass, to_leader, desk, waits) {
+            Took::Jobs => {
                 take_turns(alloc, desk, waits);
                 return false;
             }

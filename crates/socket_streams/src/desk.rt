@@ -329,8 +329,9 @@ impl<'s, X: Clock + Wait> StreamReadiness<RequestHalf, ReplyHalf> for SocketDesk
         self.stop.is_started()
     }
 
+    /// Behind a connection that can't be watched none is taken before that one has had its turns: there is a place for one.
     fn takes(&mut self, is_idle: bool) -> bool {
-        self.door.take_due() || (is_idle && self.may_end())
+        self.unwatched.is_none() && (self.door.take_due() || (is_idle && self.may_end()))
     }
 
     fn begin(&mut self, slot: usize, reader: &RequestHalf, _writer: &ReplyHalf) {
