@@ -13,7 +13,7 @@
 //! whether or not it ever returns.
 //!
 //! What it costs: a job goes through one queue of [`MAX_WAITING`] places, is moved and not copied, and takes no lock. In `run` all
-//! workers are woken after each push, and a worker has one job open ([`Rounds`]); in `run_at` a job is meant for the worker whose [`Bell`]
+//! workers are woken after each push, and a worker has one job open ([`Rounds`]); in `run_at` a job is meant for a worker whose [`Bell`]
 //! tells the least load, and that one alone is woken; [`run_with`] is `run` over any readiness. Where the queue is full the leading thread sleeps, and a worker that took a task wakes it.
 //! A run takes memory for the queue, a thread for each worker and a parker for the leading thread; `run` also for a parker for each
 //! worker, and a place for each end, twice. A worker takes memory for each job that it has open.

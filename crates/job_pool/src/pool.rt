@@ -255,7 +255,7 @@ where
 /// its sink so. Each job is one of these, once, and `given` and `refused` count them. There has to be a station; its sink was told nothing before,
 /// and has room for no end at least; and each job that the source may give is one that the service takes.
 ///
-/// A worker takes the jobs for which its bell was rung; each is meant for the worker whose bell tells the least load, the first of these. It has many
+/// A worker takes the jobs for which its bell was rung; each is meant for a worker whose bell tells the least load. It has many
 /// jobs open, as its readiness lets it.
 ///
 /// Where the run ends by a fault, the workers that were started have been joined, and their states and sinks are let go:

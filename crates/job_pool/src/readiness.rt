@@ -37,7 +37,7 @@ pub trait Readiness<S: Service> {
 
 /// What the leading thread wakes a worker with. It is the leader's side of the worker's [`Readiness`]; both are made together.
 pub trait Bell {
-    /// How many jobs the worker has open or is to take.
+    /// How much the worker has to do: one for each job that it has open or is to take, and more for those that keep it busy.
     fn load(&self) -> usize;
 
     /// A task was put into the queue, which this worker is to take. Wakes it.

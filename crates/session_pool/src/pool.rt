@@ -130,7 +130,7 @@ where
 ///
 /// There are 1 to 64 seats, whose sinks were told nothing yet. Each session that the source may give is to begin over these gates
 /// ([`Suspended::new`]), or rested over these or over gates that became these by diversions. The calling thread takes the sessions from the source and hands
-/// each to the worker with the least load, by its bell; how many sessions a worker has open, and which of them has its turn, its readiness says. The
+/// each to a worker with the least load, by its bell; how many sessions a worker has open, and which of them has its turn, its readiness says. The
 /// calls of all sessions pass the turnstile. What a sink is told is what `serve` of `node_session` promises of that session from its first read on, by a
 /// node over the gates as they were at each step, whether or not this call ever returns (`specs/Telling`: `IsToldEnd`).
 ///

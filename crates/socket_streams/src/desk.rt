@@ -360,6 +360,7 @@ impl<'s, X: Clock + Wait> StreamReadiness<RequestHalf, ReplyHalf> for SocketDesk
 
     fn wait<T: Wait>(&mut self, _rt: &T, is_idle: bool) {
         self.settle();
+        self.door.set_active(self.slots.active());
         self.poll(is_idle);
         self.has_started = self.stop.is_started();
         self.note_ready();

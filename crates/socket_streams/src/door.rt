@@ -8,12 +8,17 @@ use std::mem;
 use std::sync::atomic::{AtomicBool, AtomicUsize, Ordering};
 use std::sync::{Arc, Mutex, Wait};
 
+/// As how many connections beside itself one counts that had a turn lately, where it is asked which worker has the least to do.
+const ACTIVE_WEIGHT: usize = 3;
+
 /// What a worker's readiness, its sink, its bell and the stop of its run share.
 #[derive(Drop)]
 pub(crate) struct Door {
     waker: Waker,
     /// How many connections the worker has open or is to take.
     load: AtomicUsize,
+    /// How many of them had a turn lately, as the worker says when it waits.
+    active: AtomicUsize,
     /// How many tasks it is to take.
     due: AtomicUsize,
     /// Whether all tasks are in the queue, so that it takes them until it has a stop mark.
@@ -34,6 +39,7 @@ impl Door {
         Door {
             waker,
             load: AtomicUsize::new(0),
+            active: AtomicUsize::new(0),
             due: AtomicUsize::new(0),
             is_closing: AtomicBool::new(false),
             is_waiting: AtomicBool::new(false),
@@ -80,6 +86,11 @@ impl Door {
         self.load.fetch_sub(1, Ordering::SeqCst);
     }
 
+    /// Says how many of the worker's connections had a turn lately.
+    pub(crate) fn set_active(&self, active: usize) {
+        self.active.store(active, Ordering::Relaxed);
+    }
+
     /// Says whether the connection that has its turn next ends where it would have to wait.
     pub(crate) fn set_cutting(&self, is_cutting: bool) {
         self.is_cutting.store(is_cutting, Ordering::SeqCst);
@@ -118,8 +129,11 @@ pub struct SocketBell {
 }
 
 impl Bell for SocketBell {
+    /// One for each connection, and three more for each that had a turn lately.
     fn load(&self) -> usize {
-        self.door.load.load(Ordering::SeqCst)
+        let open = self.door.load.load(Ordering::SeqCst);
+        let active = self.door.active.load(Ordering::Relaxed).min(open);
+        open.saturating_add(active.saturating_mul(ACTIVE_WEIGHT))
     }
 
     fn ring(&self) {

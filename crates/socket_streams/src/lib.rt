@@ -20,14 +20,16 @@
 //! 8,192 bytes until what was read is answered, and go out by one write; of a read that took less than it had room for the next needs no
 //! call of the system (`Connection`). A worker takes no memory before all threads are started.
 //!
-//! How it is built: the leading thread waits at the listener, and rings the bell of the worker that has the fewest connections. A worker
-//! waits with `mio` for its sockets and its bell ([`SocketDesk`]), and gives each connection that is ready a turn. Where nobody waits for a client any more
+//! How it is built: the leading thread waits at the listener, and rings the bell of a worker with the fewest connections, of which one that had a turn
+//! lately counts as four. A worker waits with `mio` for its sockets and its bell ([`SocketDesk`]), and gives each connection that is ready a turn,
+//! which ends once it has moved 64 KiB or taken a millisecond. Where nobody waits for a client any more
 //! (it was silent for too long, or serving is stopped), its connection has one ordinary turn, and then one in which it ends rather than wait. Where the
 //! run is paused each connection has one turn, in which the pool lays it down: its socket stays open and takes what its client sends, and the
 //! desk of a later run watches it anew.
 #![tactic(auto)]
 
 mod accept_fault;
+mod activity;
 mod arrivals;
 mod connection;
 mod desk;

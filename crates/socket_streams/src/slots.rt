@@ -1,5 +1,6 @@
 //! What a worker has of its connections beside their sessions, and which of them are ready.
 
+use crate::activity::Activity;
 use crate::connection::Socket;
 use crate::door::Door;
 use std::alloc::Global;
@@ -28,6 +29,8 @@ pub(crate) struct Slot {
     patience: Patience,
     /// Whether it stands in the queue of those that are to have a turn.
     is_ready: bool,
+    /// The window in which it had its last turn.
+    window: u32,
 }
 
 /// The slots of a worker, and the queue of those that are to have a turn.
@@ -43,6 +46,8 @@ pub(crate) struct Slots {
     last: usize,
     /// How many are to have a turn.
     ready: usize,
+    /// How many had one lately.
+    activity: Activity,
 }
 
 impl Slots {
@@ -54,6 +59,7 @@ impl Slots {
             first: 0,
             last: 0,
             ready: 0,
+            activity: Activity::new(),
         }
     }
 
@@ -90,6 +96,7 @@ impl Slots {
                 next: 0,
                 patience: Patience::Open,
                 is_ready: false,
+                window: 0,
             };
             if self.slots.push(free).is_err() {
                 return false;
@@ -212,11 +219,18 @@ impl Slots {
             return None;
         }
         let slot = self.first;
+        let slots = self.slots.len();
         let one = self.slots.get_mut(slot)?;
         one.is_ready = false;
+        one.window = self.activity.note_turn(one.window, slots);
         self.first = one.next;
         self.ready -= 1;
         Some(slot)
+    }
+
+    /// How many connections had a turn lately.
+    pub(crate) fn active(&self) -> usize {
+        self.activity.active()
     }
 
     /// How many slots are ready.

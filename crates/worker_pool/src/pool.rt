@@ -239,7 +239,7 @@ impl Pool {
         )
     }
 
-    /// The same by a worker at each of these posts. The calling thread hands each job to the worker with the least load, by
+    /// The same by a worker at each of these posts. The calling thread hands each job to a worker with the least load, by
     /// its bell; how many sessions a worker has open, and which of them has its turn, its readiness says.
     ///
     /// It returns if each call of the source and of the turnstile does, and each session is over after finitely many turns.

@@ -131,15 +131,27 @@ const ROWS: &[Row] = &[
         ..ONE
     },
     Row {
-        shows: "a job is meant for the first worker with the least load, which is told when it lies in the queue",
-        jobs: &[SHORT, SHORT, SHORT],
+        shows: "a job is meant for a worker with the least load, not for one of them alone, which is told when it lies in the queue",
+        jobs: &[SHORT, SHORT, SHORT, SHORT, SHORT, SHORT],
         load: 5,
         others: Some((2, 2)),
         one_by_one: true,
-        over: 3,
-        steps: 3,
-        shown: 3,
-        rings: (0, 3, 0),
+        over: 6,
+        steps: 6,
+        shown: 6,
+        rings: (0, 5, 1),
+        ..ONE
+    },
+    Row {
+        shows: "workers with the same load have each its part of the jobs, and of every second one",
+        jobs: &[SHORT, SHORT, SHORT, SHORT, SHORT, SHORT],
+        load: 2,
+        others: Some((2, 2)),
+        one_by_one: true,
+        over: 6,
+        steps: 6,
+        shown: 6,
+        rings: (3, 2, 1),
         ..ONE
     },
     Row {
