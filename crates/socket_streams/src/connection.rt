@@ -9,14 +9,15 @@ use std::sync::atomic::{AtomicBool, AtomicUsize, Ordering};
 
 /// The socket of a connection, with what its worker was told of it. A read that takes fewer bytes than it has room for has taken all that came, so
 /// that the next one would have to wait: it needs no call of the system, until that reports something new. Where it has reported that the
-/// client ended its half, or that the connection failed, it won't do so again: then each read is a call.
+/// client ended its half, or that the connection failed, it won't do so again; and where it has reported urgent data, a read stops before these,
+/// whatever has come behind them. Then each read is a call.
 #[derive(Drop)]
 pub(crate) struct Connection {
     stream: TcpStream,
     /// Whether a read has taken all that came, and nothing was reported since.
     is_drained: AtomicBool,
-    /// Whether it was reported that nothing comes behind what has come.
-    is_ending: AtomicBool,
+    /// Whether something was reported behind which each read is a call.
+    is_asked: AtomicBool,
     /// Whether a read has met the end of what comes, or a call has failed: then its client sends nothing more.
     is_over: AtomicBool,
     /// How many bytes were read and written in this turn. Its worker alone counts.
@@ -37,7 +38,7 @@ impl Connection {
         Connection {
             stream,
             is_drained: AtomicBool::new(false),
-            is_ending: AtomicBool::new(false),
+            is_asked: AtomicBool::new(false),
             is_over: AtomicBool::new(false),
             moved: AtomicUsize::new(0),
         }
@@ -53,7 +54,7 @@ impl Connection {
         let Connection {
             stream,
             is_drained: _,
-            is_ending: _,
+            is_asked: _,
             is_over: _,
             moved: _,
         } = self;
@@ -67,15 +68,15 @@ impl Connection {
 
     /// A read took so many bytes and had room for so many.
     pub(crate) fn note_read(&self, taken: usize, room: usize) {
-        if taken < room && !self.is_ending.load(Ordering::SeqCst) {
+        if taken < room && !self.is_asked.load(Ordering::SeqCst) {
             self.is_drained.store(true, Ordering::SeqCst);
         }
     }
 
-    /// Something was reported, so that the next read is a call; perhaps that nothing comes behind what has come.
-    pub(crate) fn note_event(&self, is_ending: bool) {
-        if is_ending {
-            self.is_ending.store(true, Ordering::SeqCst);
+    /// Something was reported, so that the next read is a call, and perhaps each one from now on.
+    pub(crate) fn note_event(&self, is_asked: bool) {
+        if is_asked {
+            self.is_asked.store(true, Ordering::SeqCst);
         }
         self.is_drained.store(false, Ordering::SeqCst);
     }

@@ -81,7 +81,7 @@ impl<'s, X> Drop for SocketDesk<'s, X> {
     }
 }
 
-/// Has a connection's slot reported when bytes can be read or written.
+/// Has a connection's slot reported when bytes can be read or written, and when urgent data have come.
 fn register(poll: &Poll, reader: &RequestHalf, slot: usize) -> io::Result<()> {
     let Some(descriptor) = reader.descriptor() else {
         return Err(ErrorKind::NotConnected.into());
@@ -89,7 +89,7 @@ fn register(poll: &Poll, reader: &RequestHalf, slot: usize) -> io::Result<()> {
     poll.registry().register(
         &mut SourceFd(&descriptor),
         Token(slot),
-        Interest::READABLE | Interest::WRITABLE,
+        Interest::READABLE | Interest::WRITABLE | Interest::PRIORITY,
     )
 }
 
@@ -99,7 +99,8 @@ fn note_events(slots: &mut Slots, events: &Events<Global>, now: u64, is_stopping
         let Token(slot) = event.token();
         if slot != WAKER {
             slots.note_move(slot, now);
-            slots.note_event(slot, event.is_read_closed() || event.is_error());
+            let is_asked = event.is_read_closed() || event.is_error() || event.is_priority();
+            slots.note_event(slot, is_asked);
             if !is_stopping {
                 slots.set_patience(slot, Patience::Open);
             }
