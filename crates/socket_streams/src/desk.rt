@@ -368,7 +368,7 @@ impl<'s, X: Clock + Wait> StreamReadiness<RequestHalf, ReplyHalf> for SocketDesk
         self.note_stop();
         self.note_pause();
         if !self.lingering.is_empty() {
-            self.lingering.pass_over(self.rt);
+            self.lingering.pass_over(self.rt, self.door.is_closing());
         }
     }
 }

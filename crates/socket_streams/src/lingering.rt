@@ -11,6 +11,12 @@ use std::rt::Clock;
 /// How long such a socket is kept at most, in milliseconds.
 const LINGER_MILLIS: u64 = 2000;
 
+/// How long it is kept at most where the worker waits for nothing else.
+const LAST_LINGER_MILLIS: u64 = 1000;
+
+/// Behind how long a silence of its client it is closed then: longer than a round trip between continents takes.
+const SILENT_MILLIS: u64 = 300;
+
 /// How many such sockets a worker keeps at most.
 const MAX_SOCKETS: usize = 64;
 
@@ -24,7 +30,37 @@ const MAX_LINGER_READS: u32 = 32;
 #[derive(Drop)]
 struct Lingerer {
     socket: Socket,
-    closes_at: u64,
+    /// Since when it is kept.
+    began: u64,
+    /// When a look found last that something had come.
+    heard: u64,
+}
+
+impl Lingerer {
+    /// Passes over what has come, at this time. Whether it is kept further.
+    fn is_kept(&mut self, now: u64, is_last: bool) -> bool {
+        match pass_over(&self.socket) {
+            Passed::End => return false,
+            Passed::Bytes => self.heard = now,
+            Passed::Nothing => {}
+        }
+        let kept = now.saturating_sub(self.began);
+        if !is_last {
+            return kept < LINGER_MILLIS;
+        }
+        kept < LAST_LINGER_MILLIS && now.saturating_sub(self.heard) < SILENT_MILLIS
+    }
+}
+
+/// What was passed over.
+#[derive(Clone, Copy, Drop)]
+enum Passed {
+    /// Something had come.
+    Bytes,
+    /// Nothing had come.
+    Nothing,
+    /// The client has ended, or the connection has failed.
+    End,
 }
 
 /// The sockets of a worker whose connections have ended though their clients may still be sending.
@@ -33,6 +69,11 @@ struct Lingerer {
 /// the error that says why its connection ended. So the side to the client is shut down, behind these replies, and what comes is read and
 /// passed over until the client ends too, for two seconds at most. Only so many sockets are kept, and looked at only so often, that clients who never end take
 /// little of the worker's time.
+///
+/// Where the worker is to take no more connections, its end may wait for these sockets alone. Then one is kept for as long as its client needs to see the
+/// end that was sent to it, and no longer. What the system took for a client it goes on sending when the socket is closed, whether its client reads soon or
+/// not, unless something comes from that client: so one whose client was silent for 300 ms is closed, and all that it sent before it saw the end has
+/// come by then. A client that goes on sending all the same is passed over for a second in all.
 #[derive(Drop)]
 pub(crate) struct Lingering {
     clock: WorkerClock,
@@ -40,18 +81,20 @@ pub(crate) struct Lingering {
     next_look: u64,
 }
 
-/// Passes over what has come. Whether more may.
-fn pass_over(socket: &Socket) -> bool {
+/// Passes over what has come.
+fn pass_over(socket: &Socket) -> Passed {
     let mut stream = socket.stream();
     let mut piece = [0u8; MAX_READ_LEN];
+    let mut passed = Passed::Nothing;
     for _ in 0..MAX_LINGER_READS {
         match stream.read(&mut piece) {
-            Ok(0) => return false,
-            Ok(_) => {}
-            Err(error) => return is_of_now(&error),
+            Ok(0) => return Passed::End,
+            Ok(_) => passed = Passed::Bytes,
+            Err(error) if is_of_now(&error) => return passed,
+            Err(_) => return Passed::End,
         }
     }
-    true
+    passed
 }
 
 impl Lingering {
@@ -75,20 +118,23 @@ impl Lingering {
             return;
         }
         if self.sockets.reserve(1).is_ok() {
-            let closes_at = self.clock.now(rt).saturating_add(LINGER_MILLIS);
-            self.sockets.push_reserved(Lingerer { socket, closes_at });
+            let now = self.clock.now(rt);
+            self.sockets.push_reserved(Lingerer {
+                socket,
+                began: now,
+                heard: now,
+            });
         }
     }
 
     /// Passes over what has come, where it is time to look, and closes the sockets whose clients have ended, or that were kept for as long as
-    /// may be.
-    pub(crate) fn pass_over<X: Clock>(&mut self, rt: &X) {
+    /// may be. `is_last` where the worker is to take no more connections.
+    pub(crate) fn pass_over<X: Clock>(&mut self, rt: &X, is_last: bool) {
         let now = self.clock.now(rt);
         if now < self.next_look {
             return;
         }
         self.next_look = now.saturating_add(LOOK_MILLIS);
-        self.sockets
-            .retain(|one| pass_over(&one.socket) && now < one.closes_at);
+        self.sockets.retain_mut(|one| one.is_kept(now, is_last));
     }
 }
