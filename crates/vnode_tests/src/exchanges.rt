@@ -5,6 +5,7 @@ mod closes;
 mod contexts;
 mod copies;
 mod deletes;
+mod forms;
 mod limits;
 mod marks;
 mod options;

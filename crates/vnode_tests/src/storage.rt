@@ -14,6 +14,7 @@ use crate::storage::rows::Act::{self, Holds, IsOf, Reap, Reserve, Sync, Tombston
 use crate::storage::rows::Step::{self, Clear, DropRoom, HasDead, Next, Sweep, To};
 use crate::storage::rows::{A, FOUR, ROWS, Row};
 use actor_epoch::{Actor, MAX_ACTORS, MAX_COUNTER};
+use clock_list::ClockList;
 use clock_store::{ClockMap, ClockStore, FoundKey, KeyRef, StoredClock, WriteKind, place_in};
 use dvv_set::{Clock, Needed};
 use riak_msgs::{Content, Key};
@@ -222,5 +223,10 @@ fn holds<S: ClockStore>(alloc: Global, row: &Row) -> bool {
 fn keys_live_by_their_writes_and_go_when_dead(rt: HostRuntime) {
     for row in ROWS {
         assert!(rt; holds::<ClockMap>(rt.alloc(), row), "{}", row.shows);
+        assert!(rt;
+            holds::<ClockList>(rt.alloc(), row),
+            "a list: {}",
+            row.shows
+        );
     }
 }

@@ -7,15 +7,42 @@ use crate::exchanges::steps::{
     GetWith, HasDead, ID, Idle, LastEpoch, LetGo, NONE, PLAIN_GET, PLAIN_PUT, PutOptions, Reap,
     ReapFirst, Refused, Reply, Shows, Sibling, Step, Sweep, Tombstone, Unchanged, Value,
 };
-use riak_msgs::{Content, ContextBytes, DelAsk, GetAsk, GetReply, Key, PutAsk, Shown};
+use riak_msgs::{
+    BucketType, Bytes, Content, ContextBytes, DelAsk, GetAsk, GetReply, Key, PutAsk, Shown,
+};
 use std::alloc::{AllocError, Global};
 use std::process::Abort;
 use tomb_reaper::sweep;
 use vnode_core::{Answer, Ask, Change, Plan, Refusal, Vnode};
 
+/// Where keys are: their bucket type, or none for the default one, and their bucket.
+#[derive(Clone, Copy)]
+pub(crate) struct Place<'a> {
+    pub(crate) bucket_type: Option<&'a [u8]>,
+    pub(crate) bucket: &'a [u8],
+}
+
+/// The bucket "b" of the default type.
+const B: Place<'static> = Place {
+    bucket_type: None,
+    bucket: b"b",
+};
+
+/// The key of a name in a place.
+fn key_in(alloc: Global, place: Place<'_>, name: &[u8]) -> Result<Key, AllocError> {
+    match place.bucket_type {
+        None => Key::of_default_type(alloc, place.bucket, name),
+        Some(bucket_type) => Ok(Key {
+            bucket_type: BucketType::from_slice(alloc, bucket_type)?,
+            bucket: Bytes::from_slice(alloc, place.bucket)?,
+            key: Bytes::from_slice(alloc, name)?,
+        }),
+    }
+}
+
 /// The key of this name in the bucket "b" of the default type.
 pub(crate) fn key_of(alloc: Global, name: &[u8]) -> Result<Key, AllocError> {
-    Key::of_default_type(alloc, b"b", name)
+    key_in(alloc, B, name)
 }
 
 fn key_from(alloc: Global, name: Option<&[u8]>) -> Result<Option<Key>, AllocError> {
@@ -25,24 +52,26 @@ fn key_from(alloc: Global, name: Option<&[u8]>) -> Result<Option<Key>, AllocErro
     }
 }
 
-/// A get of a key with options.
-fn get_of(
+/// A get of a key in a place with options.
+pub(crate) fn get_in(
     alloc: Global,
+    place: Place<'_>,
     name: &[u8],
     if_modified: &[u8],
     options: GetOptions,
 ) -> Result<GetAsk, AllocError> {
     let if_modified = ContextBytes::from_slice(alloc, if_modified)?;
     Ok(GetAsk {
-        key: key_of(alloc, name)?,
+        key: key_in(alloc, place, name)?,
         if_modified,
         head: options.head,
         deletedvclock: options.deletedvclock,
     })
 }
 
-fn put_of(
+fn put_in(
     alloc: Global,
+    place: Place<'_>,
     name: &[u8],
     value: &[u8],
     context: &[u8],
@@ -51,7 +80,7 @@ fn put_of(
     let context = ContextBytes::from_slice(alloc, context)?;
     let content = Content::of_value(alloc, value)?;
     Ok(Ask::Put(PutAsk {
-        key: key_of(alloc, name)?,
+        key: key_in(alloc, place, name)?,
         context,
         content,
         return_body: options.return_body,
@@ -74,31 +103,42 @@ fn context_of_others(alloc: Global, count: u8) -> Result<Vec<u8>, AllocError> {
 
 fn put_after_others(alloc: Global, count: u8) -> Result<Ask, AllocError> {
     let context = context_of_others(alloc, count)?;
-    put_of(alloc, b"k", b"w", context.as_slice(), PLAIN_PUT)
+    put_in(alloc, B, b"k", b"w", context.as_slice(), PLAIN_PUT)
 }
 
-fn del_of(alloc: Global, name: &[u8], context: &[u8]) -> Result<Ask, AllocError> {
+fn del_in(alloc: Global, place: Place<'_>, name: &[u8], context: &[u8]) -> Result<Ask, AllocError> {
     let context = ContextBytes::from_slice(alloc, context)?;
     Ok(Ask::Del(DelAsk {
-        key: key_of(alloc, name)?,
+        key: key_in(alloc, place, name)?,
         context,
     }))
 }
 
-/// A command, as the vnode takes it.
-pub(crate) fn ask_of(alloc: Global, command: Command<'_>) -> Result<Ask, AllocError> {
+/// A command on keys in a place, as the vnode takes it.
+pub(crate) fn ask_in(
+    alloc: Global,
+    place: Place<'_>,
+    command: Command<'_>,
+) -> Result<Ask, AllocError> {
     match command {
-        Command::Put(name, value, context) => put_of(alloc, name, value, context, PLAIN_PUT),
+        Command::Put(name, value, context) => {
+            put_in(alloc, place, name, value, context, PLAIN_PUT)
+        }
         Command::PutWith(name, value, context, options) => {
-            put_of(alloc, name, value, context, options)
+            put_in(alloc, place, name, value, context, options)
         }
         Command::PutAfterOthers(count) => put_after_others(alloc, count),
-        Command::Del(name, context) => del_of(alloc, name, context),
-        Command::Reap(name) => Ok(Ask::Reap(key_of(alloc, name)?)),
+        Command::Del(name, context) => del_in(alloc, place, name, context),
+        Command::Reap(name) => Ok(Ask::Reap(key_in(alloc, place, name)?)),
         Command::ReapFirst(None) => Ok(Ask::ReapFirst(None)),
-        Command::ReapFirst(Some(name)) => Ok(Ask::ReapFirst(Some(key_of(alloc, name)?))),
+        Command::ReapFirst(Some(name)) => Ok(Ask::ReapFirst(Some(key_in(alloc, place, name)?))),
         Command::Close(number) => Ok(Ask::Close(number)),
     }
+}
+
+/// A command on keys of the bucket "b".
+pub(crate) fn ask_of(alloc: Global, command: Command<'_>) -> Result<Ask, AllocError> {
+    ask_in(alloc, B, command)
 }
 
 fn is_sibling(shown: &Shown, wanted: &Sibling) -> bool {
@@ -227,7 +267,7 @@ fn get(
     options: GetOptions,
     reply: &Reply,
 ) -> Result<bool, Refusal> {
-    let get = get_of(alloc, name, if_modified, options)?;
+    let get = get_in(alloc, B, name, if_modified, options)?;
     read(vnode, alloc, get, reply)
 }
 

@@ -1,6 +1,7 @@
 //! Dead keys with short names, with longer ones and of another bucket type, and the order in which they are reaped.
 
 use crate::storage::write_tombstone;
+use clock_list::ClockList;
 use clock_store::{ClockMap, ClockStore};
 use riak_msgs::{BucketType, Bytes, DEFAULT_TYPE, Key};
 use std::alloc::{AllocError, Global};
@@ -179,5 +180,10 @@ fn holds<S: ClockStore>(alloc: Global, row: &Row) -> bool {
 fn dead_keys_are_reaped_in_key_order(rt: HostRuntime) {
     for row in ROWS {
         assert!(rt; holds::<ClockMap>(rt.alloc(), row), "{}", row.shows);
+        assert!(rt;
+            holds::<ClockList>(rt.alloc(), row),
+            "a list: {}",
+            row.shows
+        );
     }
 }

@@ -1,0 +1,3 @@
+pub mod DeadRows
+pub mod Finding
+pub mod Rows

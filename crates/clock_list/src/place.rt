@@ -1,0 +1,67 @@
+//! Where a key stands in the list of keys.
+
+ghost use Rattle.std.specs.Prelude.{◌≡◌, map};
+ghost use Rattle.std.specs.Option.{option_map};
+ghost use Rattle.riak_msgs.specs.KeyOrder.{key_cmp};
+ghost use Rattle.clock_store.specs.Behind.{is_behind, next_entry};
+ghost use Rattle.clock_store.specs.KeyRefs.{key_after};
+ghost use Rattle.clock_list.specs.Places.{place_in};
+ghost use Rattle.clock_list.specs.Rows.{entry_of};
+
+use crate::row::Row;
+use clock_store::KeyRef;
+use riak_msgs::Key;
+use std::cmp::Ordering;
+
+/// A key's place in a list in key order.
+#[derive(Clone, Copy, Debug, Drop, PartialEq, Eq)]
+pub(crate) enum Place {
+    /// It stands here.
+    At(usize),
+    /// It isn't there, and would be put in here.
+    New(usize),
+}
+
+/// The place of a key in a list in key order. It looks through the list from the front.
+pub(crate) fn place_of(rows: &[Row], key: &Key) -> Place
+    ensures { result ≡ place_in key.now (map entry_of rows.now) }
+{
+    for (i, other) in rows.iter().enumerate() {
+        match key.cmp(&other.key) {
+            Ordering::Less => return Place::New(i),
+            Ordering::Equal => return Place::At(i),
+            Ordering::Greater => {}
+        }
+    }
+    Place::New(rows.len())
+}
+
+/// Whether a key is behind another, where one is given.
+fn is_behind(after: Option<KeyRef<'_>>, key: &Key) -> bool
+    ensures { result ≡ is_behind key_cmp (key_after after.entry) key.now }
+{
+    match after {
+        None => true,
+        Some(after) => {
+            let bucket_type = after.bucket_type.cmp(&key.bucket_type);
+            let bucket = after.bucket.cmp(&key.bucket);
+            bucket_type
+                .then(bucket)
+                .then(after.key.cmp(&key.key))
+                .is_lt()
+        }
+    }
+}
+
+/// The row of the least key behind one, or of all where none is given. It looks through the list from the front.
+pub(crate) fn next_row<'a>(rows: &'a [Row], after: Option<KeyRef<'_>>) -> Option<&'a Row>
+    ensures { option_map (λ row. entry_of row.now) result
+        ≡ next_entry key_cmp (key_after after.entry) (map entry_of rows.now) }
+{
+    for row in rows {
+        if is_behind(after, &row.key) {
+            return Some(row);
+        }
+    }
+    None
+}
