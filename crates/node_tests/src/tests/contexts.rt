@@ -141,8 +141,37 @@ const LONG_PIECES: Channel<'static> = Channel {
     ..PLAIN
 };
 
-/// A put of "v" on b/k behind contexts of another vnode's actors; and gets.
+/// A get's reply that shows 64 siblings: what stands before them, each of them, and their context.
+const BEFORE_SIBLINGS: &[u8] = b"\0\0\x01X\x0a";
+
+const SIBLING_V: &[u8] = b"\x0a\x03\x0a\x01v";
+
+const BEHIND_SIBLINGS: &[u8] = b"\x12\x15\x02\0\0\0\0\0\x01\0\0\0\0\0\x01\0\0\0\0\0\0\0@";
+
+/// As many siblings of b/k as a key may have; puts of "v" on it behind contexts of another vnode's actors; and gets.
 const CROWDS: &[Session] = &[
+    Session {
+        shows: "a put too many leaves the siblings as they were",
+        input: &[
+            Part::Times(64, PUT_V),
+            Part::Bytes(GET),
+            Part::Bytes(PUT_V),
+            Part::Bytes(GET),
+        ],
+        channel: LONG_PIECES,
+        end: ended!(67, 0),
+        output: &[
+            Part::Times(64, STORED),
+            Part::Bytes(BEFORE_SIBLINGS),
+            Part::Times(64, SIBLING_V),
+            Part::Bytes(BEHIND_SIBLINGS),
+            Part::Bytes(TOO_MANY_SIBLINGS),
+            Part::Bytes(BEFORE_SIBLINGS),
+            Part::Times(64, SIBLING_V),
+            Part::Bytes(BEHIND_SIBLINGS),
+        ],
+        ..EMPTY
+    },
     // The put after it has the first epoch.
     Session {
         shows: "with 64 actors of its context and its own a clock is full, and takes no epoch",
@@ -242,7 +271,7 @@ const CROWDS: &[Session] = &[
 ];
 
 #[test]
-fn a_clock_has_64_actors_at_most(rt: HostRuntime) {
+fn a_clock_has_64_actors_and_a_key_64_siblings_at_most(rt: HostRuntime) {
     for row in CROWDS {
         assert!(rt; goes(rt.alloc(), row), "{}", row.shows);
     }

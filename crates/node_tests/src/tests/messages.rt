@@ -8,7 +8,7 @@ use crate::tests::frames::{
 };
 
 const MESSAGES: &[Exchange] = &[
-    // The bucket twice, of which the last counts; an unknown field 99; a length in two bytes; a key before its bucket.
+    // The bucket twice, of which the last counts; an unknown field 99; a length in two bytes; a key before its bucket. A varint of eleven bytes is none.
     Exchange {
         shows: "a get may be encoded otherwise",
         turns: &[
@@ -17,6 +17,8 @@ const MESSAGES: &[Exchange] = &[
             Asks(GET_UNKNOWN_FIELD, SHOWN_V),
             Asks(GET_LONG_LENGTH, SHOWN_V),
             Asks(b"\0\0\0\x07\x09\x12\x01k\x0a\x01b", SHOWN_V),
+            Asks(GET_LONG_VARINT, BAD_MESSAGE),
+            Asks(GET, SHOWN_V),
         ],
         ..PLAIN_NODE
     },

@@ -91,6 +91,14 @@ const PUTS_W: &Session = &Session {
     ..NEW_SESSION
 };
 
+/// A get of b/k: "w" alone, with the 41 dots of the vnode 98,304.
+const GETS_W: &Session = &Session {
+    requests: GET,
+    replies: b"\0\0\0\x1d\x0a\x0a\x03\x0a\x01w\x12\x15\x02\0\0\0\0\0\x01\x80\0\0\0\0\x01\0\0\0\0\0\0\0)",
+    totals: ONE_GET,
+    ..NEW_SESSION
+};
+
 /// A get of b/k: the 40 siblings of the primary, and "w".
 const GETS_FORTY_ONE: &Session = &Session {
     requests: GET,
@@ -296,6 +304,7 @@ const RETURNS: &[Course] = &[
             finishes!(LeftOver),
             Turn::Serve(GETS_FORTY),
             Turn::Serve(PUTS_W),
+            Turn::Serve(GETS_W),
             copies!(10 => 1, 0, 0),
             finishes!(Returned),
             Turn::Serve(GETS_FORTY_ONE),

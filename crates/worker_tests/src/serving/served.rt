@@ -164,7 +164,7 @@ pub const NONE_OF_EACH: Option<&str> = Some("gets 0 puts 0 deletes 0 refusals 0 
 /// The line of the totals of two puts and two gets.
 pub const TWO_OF_EACH: Option<&str> = Some("gets 2 puts 2 deletes 0 refusals 0 reaps 0\n");
 
-/// Two clients that put and get. Runs of a row say what is other.
+/// Two clients that put and get, served by two workers on a ring of one partition. Runs of a row say what is other.
 const TWO_AT_ONCE: Run = Run {
     shows: "two clients are served at once",
     failures: NO_FAILURES,
@@ -177,7 +177,6 @@ const TWO_AT_ONCE: Run = Run {
 };
 
 const RUNS: &[Run] = &[
-    TWO_AT_ONCE,
     Run {
         shows: "one worker serves two clients at once",
         workers: 1,
@@ -325,14 +324,15 @@ fn serves<R: Log + Clock + Net + Threads + Wait + Sync>(
     }
 }
 
-// The threads are started in the test itself: both use the network, and of any runtime it isn't known that another thread may.
-#[test]
-fn connections_are_served(rt: HostRuntime) {
-    for run in RUNS {
-        let Some((listener, port)) = listen(&rt) else {
-            panic!(rt; "no listener");
+// Serves a run, with its clients beside it: all comes as it says. It stands in each test, since both threads use the network, and of any runtime but a
+// test's own it isn't known that another thread may.
+macro_rules! serve_run {
+    ($rt:ident, $run:expr) => {
+        let Some((listener, port)) = listen(&$rt) else {
+            panic!($rt; "no listener");
         };
-        let quiet = Logged::new(rt, LevelFilter::Off, Console(rt));
+        let run = $run;
+        let quiet = Logged::new($rt, LevelFilter::Off, Console($rt));
         let accepts = AtomicU32::new(0);
         let failing = Failing {
             listener,
@@ -342,10 +342,23 @@ fn connections_are_served(rt: HostRuntime) {
         let ports = Ports::new();
         let has_ended = AtomicBool::new(false);
         let (is_served, are_steps_taken) = thread::join(
-            &rt,
-            || serves(&quiet, rt.alloc(), failing, port, run),
-            || take_all(&rt, rt.alloc(), port, &ports, &has_ended, run.steps),
+            &$rt,
+            || serves(&quiet, $rt.alloc(), failing, port, run),
+            || take_all(&$rt, $rt.alloc(), port, &ports, &has_ended, run.steps),
         );
-        assert!(rt; is_served && are_steps_taken, "{}", run.shows);
+        assert!($rt; is_served && are_steps_taken, "{}", run.shows);
+    };
+}
+
+/// Each of two clients gets the value that it put itself, and totals and tally count two puts.
+#[test]
+fn two_clients(rt: HostRuntime) {
+    serve_run!(rt, &TWO_AT_ONCE);
+}
+
+#[test]
+fn connections_are_served(rt: HostRuntime) {
+    for run in RUNS {
+        serve_run!(rt, run);
     }
 }
