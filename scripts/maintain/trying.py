@@ -3,6 +3,7 @@
 No case looks at how fast anything is: SECONDS bounds only how long a case waits for what has to come, on a machine however slow.
 """
 import os
+import re
 import resource
 import signal
 import socket
@@ -78,6 +79,10 @@ STORED = frame(STORED_CODE)
 DELETED = frame(DELETED_CODE)
 SHOWN = frame(GOT, shown([b"v"])[1:] + field(2, struct.pack(">BQIQ", CONTEXT_VERSION, 0x10000, 1, 1)))
 BAD_LENGTH = b"\0\0\0\0"
+# how many connections wait at the door of a node that accepts none, as many as are tried where the system allows that
+WAIT_AT_DOOR = 400
+LOG_LINE = re.compile(rb"\d{4}-\d\d-\d\dT\d\d:\d\d:\d\dZ \[(?:INFO |WARN ) [\w:]+\] [^\r\n]+")
+PASSED_OVER = re.compile(rb"\[WARN  riak_node\] (\d+) log lines were passed over: standard error was full")
 
 
 def dots(reply):
@@ -94,17 +99,18 @@ def resident(pid):
 
 
 class Node:
-    """A run of `serve` on a free port, with `--until-eof` where it isn't said otherwise. What it logs is read all the time, so that no line waits for room."""
+    """A run of `serve` on a free port, with `--until-eof` where it isn't said otherwise. What it logs is read all the time, so that no line waits for room, unless `errors` is a
+    descriptor that it gets for standard error."""
 
     started = []
 
-    def __init__(self, *options, command=None, before=None, reads_log=True):
+    def __init__(self, *options, command=None, before=None, reads_log=True, errors=subprocess.PIPE):
         words = [*(command or [PROGRAM, "serve", "--until-eof", "--port", "0"]), *map(str, options)]
-        self.process = subprocess.Popen(words, stdin=subprocess.PIPE, stdout=subprocess.PIPE, stderr=subprocess.PIPE, preexec_fn=before)
+        self.process = subprocess.Popen(words, stdin=subprocess.PIPE, stdout=subprocess.PIPE, stderr=errors, preexec_fn=before)
         Node.started.append(self.process)
         self.log = []
         self.reader = threading.Thread(target=lambda: self.log.extend(self.process.stderr), daemon=True)
-        if reads_log:
+        if reads_log and self.process.stderr:
             self.reader.start()
         self.first = self.first_line()
         check(self.first.startswith("listening "), "the node said", repr(self.first), "and not that it listens;", b"".join(self.log))
@@ -144,6 +150,23 @@ class Node:
     def logged(self, text):
         """How many lines of the log have this text."""
         return sum(text in line for line in list(self.log))
+
+
+def connect_and_go(node, count):
+    """So many clients come one behind another, are answered, and go."""
+    for number in range(count):
+        with node.connect() as client:
+            check(ask(client, PING, PONG), "client", number, "isn't answered")
+
+
+def lines_and_passed_over(log):
+    """How many lines of connections a log has, each whole, and how many it says that it lacks."""
+    lines = re.split(rb"\r?\n", log)
+    check(lines.pop() == b"", "the last line of the log isn't whole")
+    for line in lines:
+        check(LOG_LINE.fullmatch(line), "a line of the log is", line)
+    passed_over = [int(found[1]) for line in lines if (found := PASSED_OVER.search(line))]
+    return len(lines) - len(passed_over), sum(passed_over)
 
 
 def limit(kind, most):
@@ -188,6 +211,23 @@ def reset(client):
     """Ends a connection by a reset."""
     client.setsockopt(socket.SOL_SOCKET, socket.SO_LINGER, struct.pack("ii", 1, 0))
     client.close()
+
+
+def come_to_the_door(node, port):
+    """The connections of clients that come to a port of a node which is stopped, all of which the system lets wait there."""
+    with open("/proc/sys/net/core/somaxconn") as allowed:
+        count = min(WAIT_AT_DOOR, int(allowed.read()))
+    node.process.send_signal(signal.SIGSTOP)
+    clients = []
+    for number in range(count):
+        try:
+            clients.append(socket.create_connection(("127.0.0.1", port), SECONDS / 10))
+        except TimeoutError:
+            check(False, "only", number, "of", count, "connections wait at the door")
+    for client in clients:
+        client.settimeout(SECONDS)
+    node.process.send_signal(signal.SIGCONT)
+    return clients
 
 
 def until(holds, *said):

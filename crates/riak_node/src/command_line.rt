@@ -39,8 +39,8 @@ fn bare_serve<'a>(alloc: Global) -> clap::Command<'a> {
              partition P, from 0, go to a fallback; copy P B, at most B of its keys are copied back, and whether some are\n\
              left; return P, it is at its primary again; stop, serving ends in order. What can't be done is answered by\n\
              why, as in: refused: no such command.\n\n\
-             With --control-port operators write these lines to that port and read the answers there, one behind another. Its\n\
-             address is a line before the other two, as in: control 127.0.0.1:8088.\n\n\
+             With --control-port an operator writes these lines to that port and reads the answers there. A further one is told\n\
+             that another is connected, and closed. The address is a line before the other two, as in: control 127.0.0.1:8088.\n\n\
              Exit status: 0 at the end of standard input with --until-eof or --control, at stop, and when all connections\n\
              of --connections have ended, also those that failed; 1 where serving had to stop before, with one line on\n\
              standard error, as in: riak_node: cannot listen; 2 for a command line that isn't one of these.\n\n\

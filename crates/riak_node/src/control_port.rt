@@ -10,7 +10,7 @@ use std::alloc::Global;
 use std::io;
 use std::io::{BufWriter, ErrorKind, Read, Write};
 use std::net::{Net, TcpListener, TcpStream};
-use std::os::fd::AsRawFd;
+use std::os::fd::{AsFd, AsRawFd, OwnedFd};
 use std::time::Duration;
 
 /// How many bytes are gathered for one write: more than an answer has.
@@ -50,7 +50,8 @@ pub(crate) struct ControlPort {
     watch: Option<Watch>,
     client: BufWriter<Operator>,
     newcomer: Option<Newcomer>,
-    spare: Option<TcpListener>,
+    /// A descriptor that is let go where there is none for an operator. Nothing is done with what it is of.
+    spare: Option<OwnedFd>,
     /// How many bytes were read since the last look for others.
     read_bytes: u32,
 }
@@ -65,7 +66,7 @@ impl ControlPort {
         listener.set_nonblocking(true).ok()?;
         let client = BufWriter::with_capacity(alloc, ANSWER_LEN, Operator::nobody()).ok()?;
         let watch = Watch::new(net, alloc, listener.as_raw_fd(), Interest::READABLE);
-        let spare = listener.try_clone().ok();
+        let spare = listener.as_fd().try_clone_to_owned().ok();
         Some(ControlPort {
             listener,
             watch,
@@ -86,7 +87,17 @@ impl ControlPort {
     /// Keeps a descriptor back again, where it was let go.
     fn keep_spare(&mut self) {
         if self.spare.is_none() {
-            self.spare = self.listener.try_clone().ok();
+            self.spare = self.listener.as_fd().try_clone_to_owned().ok();
+        }
+    }
+
+    /// Ends a connection of which the client is told this, and closes it; where no other descriptor can be had to be kept back, it is this one.
+    fn close(&mut self, stream: TcpStream, told: &[u8]) {
+        let mut stream = stream;
+        dismiss(&mut stream, told);
+        self.keep_spare();
+        if self.spare.is_none() {
+            self.spare = Some(OwnedFd::from(stream));
         }
     }
 
@@ -125,7 +136,7 @@ impl ControlPort {
         if newcomer.looks < MAX_LOOKS && !operator.is_quiet() || operator.end_if_silent() {
             self.newcomer = Some(newcomer);
         } else {
-            dismiss(newcomer.stream, BUSY);
+            self.close(newcomer.stream, BUSY);
         }
     }
 
@@ -145,7 +156,6 @@ impl ControlPort {
                 return;
             };
             self.meet(Newcomer { stream, looks: 0 });
-            self.keep_spare();
         }
     }
 
@@ -168,7 +178,9 @@ impl ControlPort {
 
 impl Read for ControlPort {
     fn read(&mut self, buf: &mut [u8]) -> io::Result<usize> {
-        self.client.get_mut().end_if_refused();
+        if let Some(ended) = self.client.get_mut().take_ended() {
+            self.close(ended, b"");
+        }
         if self.client.get_ref().is_there() {
             return self.read_client(buf);
         }

@@ -1,13 +1,12 @@
 //! Where the lines of the log go.
 
 use crate::log_line::LogLine;
+use crate::open_again::open_again;
 use crate::watch::{STANDARD_ERROR, Watch};
 use mio::Interest;
 use std::alloc::Global;
-use std::fs::{File, OpenOptions};
+use std::fs::File;
 use std::io::{IsTerminal, Write};
-use std::net::TcpStream;
-use std::os::fd::{AsFd, AsRawFd};
 use std::rt::Stderr;
 use std::time::Duration;
 
@@ -32,29 +31,12 @@ pub(crate) struct LogOutput {
     way: Way,
 }
 
-/// Opens standard error once more, for writes that never wait. Other programs write to it by descriptors of their own, whose ways don't change. None where it can't be opened, as a
-/// socket can't, nor a terminal or a pipe of another user; and where it would get the descriptor of a standard stream that was closed.
-fn open_own(rt: &HostRuntime) -> Option<File> {
-    let mut how = OpenOptions::new();
-    // a terminal is opened for writing alone: if it could be read, it would become the controlling terminal of a session that has none. A pipe is
-    // opened for both: to open it for writing alone waits until somebody reads it
-    how.read(!rt.stderr().is_terminal()).write(true);
-    let file = how.open(rt, STANDARD_ERROR_PATH).ok()?;
-    if file.as_raw_fd() <= STANDARD_ERROR {
-        return None;
-    }
-    // not to wait is of what is open, and so of both descriptors; the type is the one that can ask for it
-    let twin = TcpStream::from(file.as_fd().try_clone_to_owned().ok()?);
-    twin.set_nonblocking(true).ok()?;
-    Some(file)
-}
-
 /// How lines get to this standard error: what can be watched is opened once more, or else watched.
 fn way_of(rt: &HostRuntime, alloc: Global) -> Way {
     let Some(watch) = Watch::new(rt, alloc, STANDARD_ERROR, Interest::WRITABLE) else {
         return Way::Plain;
     };
-    match open_own(rt) {
+    match open_again(rt, STANDARD_ERROR_PATH, rt.stderr().is_terminal()) {
         Some(file) => Way::Own(file),
         None => Way::Watched(watch),
     }

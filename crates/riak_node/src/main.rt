@@ -45,9 +45,11 @@ mod listeners;
 mod log_line;
 mod log_output;
 mod log_time;
+mod open_again;
 mod operator;
 mod option_values;
 mod options;
+mod patient_output;
 mod serving;
 mod subcommand;
 mod terminal;
@@ -64,6 +66,7 @@ use listeners::{control_port_of, listen};
 use log::{Level, Log, Logged};
 use log_output::LogOutput;
 use node_session::SessionFault;
+use patient_output::{PatientOutput, terminal_of};
 use ring_map::Ring;
 use schedule_player::StepsFault;
 use serving::{ended, serve_by_options};
@@ -189,8 +192,9 @@ fn main(rt: HostRuntime) -> ExitCode {
             Ok((ring, address)) => {
                 let console = DrainedConsole::new(rt, LogOutput::new(&rt, alloc), options.lines);
                 let logged = Logged::new(rt, Level::Info, console);
-                let (input, output) = (rt.stdin(), rt.stdout());
-                let conclusion = serve_all(&logged, alloc, ring, address, options, input, output);
+                let output = PatientOutput::new(rt, rt.stdout(), terminal_of(&rt));
+                let input = rt.stdin();
+                let conclusion = serve_all(&logged, alloc, ring, address, options, input, &output);
                 logged.flush();
                 conclusion
             }

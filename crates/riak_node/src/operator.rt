@@ -26,6 +26,8 @@ const LATE_LEN: usize = 1_024;
 #[derive(Drop)]
 pub(crate) struct Operator {
     stream: Option<TcpStream>,
+    /// The connection that is over, and isn't closed yet.
+    ended: Option<TcpStream>,
     line: LineSoFar,
     silent_reads: u32,
 }
@@ -46,15 +48,14 @@ fn is_of_commands(byte: u8) -> bool {
     byte.is_ascii_lowercase() || byte.is_ascii_digit() || byte == b' ' || byte == b'\r'
 }
 
-/// Writes this to a client, as far as that can be done without waiting, and closes its connection.
-pub(crate) fn dismiss(stream: TcpStream, told: &[u8]) {
-    let mut stream = stream;
+/// Writes this to a client, as far as that can be done without waiting, and ends the connection.
+pub(crate) fn dismiss(stream: &mut TcpStream, told: &[u8]) {
     if stream.set_nonblocking(true).is_err() {
         return;
     }
     let _unheard = stream.write(told);
     let _unheard = stream.shutdown(Shutdown::Write);
-    // of a connection that is closed with bytes unread, the client may lose what it was told
+    // where a connection is closed with bytes unread, its client may lose what it was told
     let mut late = [0u8; LATE_LEN];
     for _ in 0..LATE_READS {
         match stream.read(&mut late) {
@@ -69,6 +70,7 @@ impl Operator {
     pub(crate) fn nobody() -> Operator {
         Operator {
             stream: None,
+            ended: None,
             line: LineSoFar::Plain,
             silent_reads: 0,
         }
@@ -81,23 +83,26 @@ impl Operator {
 
     /// Begins to hear a client. Refused where its connection can't be set up, which is closed then.
     pub(crate) fn begin(&mut self, stream: TcpStream) -> io::Result<()> {
-        *self = Operator::nobody();
         stream.set_nodelay(true)?;
         stream.set_read_timeout(Some(Duration::from_millis(WAIT_MILLIS)))?;
         stream.set_write_timeout(Some(Duration::from_millis(ANSWER_MILLIS)))?;
+        *self = Operator::nobody();
         self.stream = Some(stream);
         Ok(())
     }
 
-    /// Closes the connection of a client that wrote a line which can't be a command. That was answered by now.
-    pub(crate) fn end_if_refused(&mut self) {
-        if self.line != LineSoFar::Refused {
-            return;
+    /// Nobody is heard any more.
+    fn end(&mut self) {
+        self.ended = self.stream.take();
+    }
+
+    /// The connection that is over, for who closes it. So is that of a client that wrote a line which can't be a command, once that was answered: before the next read.
+    pub(crate) fn take_ended(&mut self) -> Option<TcpStream> {
+        if self.line == LineSoFar::Refused {
+            self.line = LineSoFar::Plain;
+            self.end();
         }
-        self.line = LineSoFar::Plain;
-        if let Some(stream) = self.stream.take() {
-            dismiss(stream, b"");
-        }
+        self.ended.take()
     }
 
     /// Whether a client is connected of which all was read that it wrote, as far as can be known without waiting.
@@ -116,13 +121,13 @@ impl Operator {
         }
     }
 
-    /// Closes the connection of a client that was silent for a minute. Whether it was.
+    /// Ends the connection of a client that was silent for a minute. Whether it was.
     pub(crate) fn end_if_silent(&mut self) -> bool {
-        if self.silent_reads < SILENT_READS {
-            return false;
+        let is_silent = self.silent_reads >= SILENT_READS;
+        if is_silent {
+            self.end();
         }
-        *self = Operator::nobody();
-        true
+        is_silent
     }
 
     /// Takes note of a byte that has come.
@@ -138,7 +143,7 @@ impl Operator {
     }
 }
 
-/// A read brings one byte at most, and waits 100 ms at most. A client that has gone is closed, and the read is as where nothing has come.
+/// A read brings one byte at most, and waits 100 ms at most. Of a client that has gone the connection is over, and the read is as where nothing has come.
 impl Read for Operator {
     fn read(&mut self, buf: &mut [u8]) -> io::Result<usize> {
         let (Some(stream), Some(place)) = (&mut self.stream, buf.get_mut(..1)) else {
@@ -160,12 +165,12 @@ impl Read for Operator {
                 _ => {}
             },
         }
-        self.stream = None;
+        self.end();
         Err(ErrorKind::WouldBlock.into())
     }
 }
 
-/// What can't be written to a client within a second is passed over, and the client is closed; so is what is written to nobody.
+/// What can't be written to a client within a second is passed over, and its connection is over; so is what is written to nobody.
 impl Write for Operator {
     ghost contents = { λ _. None };
 
@@ -181,7 +186,7 @@ impl Write for Operator {
                 }
             }
         }
-        self.stream = None;
+        self.end();
         Ok(buf.len())
     }
 

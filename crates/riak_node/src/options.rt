@@ -91,7 +91,7 @@ pub(crate) fn control_port<'a>(alloc: Global) -> Result<Arg<'a>, AllocError> {
         .value_name("N")
         .value_parser(value_parser!(u16))
         .help(
-            "Take an operator's commands over TCP from one client behind another, at port N of 127.0.0.1, or with 0 at a free one, which a line before the first names. stop ends serving, and so does the end of standard input with --until-eof; no client's end does. Not with --control",
+            "Take an operator's commands over TCP from one client at a time, at port N of 127.0.0.1, or with 0 at a free one, which a line before the first names. stop ends serving, and so does the end of standard input with --until-eof; no client's end does. Not with --control",
         )
         .conflicts_with("control")
 }
