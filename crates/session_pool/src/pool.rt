@@ -12,7 +12,7 @@ ghost use Rattle.session_pool.specs.Telling.{LeavesTold, TellsSource};
 
 use crate::end_sink::EndSink;
 use crate::host::{Host, OfGates};
-use crate::kept::new_kept;
+use crate::kept::{Kept, new_kept};
 use crate::pause::Pause;
 use crate::seat::Seat;
 use crate::served::Served;
@@ -43,7 +43,7 @@ fn fault_of(fault: RunFault) -> PoolFault
     }
 }
 
-/// A run by a book of these ledgers, over the gates that `H` names.
+/// A run by a book of these ledgers, over the gates that `H` names, whose workers keep this.
 fn serve_by<X, J, R, W, T, Q, K, Y, B, H, G, P, D, E, L>(
     rt: &X,
     alloc: Global,
@@ -52,6 +52,7 @@ fn serve_by<X, J, R, W, T, Q, K, Y, B, H, G, P, D, E, L>(
     seats: Vec<Seat<K, Y, B>>,
     turnstile: &T,
     pause: &Q,
+    kept: &Kept<'_>,
     seen: &mut Passes,
     blanks: Blanks,
 ) -> Result<Served<R, W, K>, PoolFault>
@@ -98,14 +99,10 @@ where
     else {
         return Err(PoolFault::NoMemory);
     };
-    let given_up = GivenUp::new();
-    let Ok(kept) = new_kept(alloc, shared.handoff().ring(), seats.len(), &given_up) else {
-        return Err(PoolFault::NoMemory);
-    };
     let Ok(places) = new_places(alloc, seats.len()) else {
         return Err(PoolFault::NoMemory);
     };
-    let Ok(stations) = stations_of(alloc, shared, stocks, seats, &kept) else {
+    let Ok(stations) = stations_of(alloc, shared, stocks, seats, kept) else {
         return Err(PoolFault::NoMemory);
     };
     let host = Host::<H, X, T, Q, R, W, G, P, D, E, L> {
@@ -193,6 +190,10 @@ where
     ensures more { HaveSeenAllOf seen.new seen.old }
     ensures passes { ArePassesOf shared.now seen.new }
 {
+    let given_up = GivenUp::new();
+    let Ok(kept) = new_kept(alloc, shared.handoff().ring(), seats.len(), &given_up) else {
+        return Err(PoolFault::NoMemory);
+    };
     serve_by::<X, J, R, W, T, Q, K, Y, B, Brand, Brand, Brand, Brand, Brand, Brand>(
         rt,
         alloc,
@@ -201,6 +202,7 @@ where
         seats,
         turnstile,
         pause,
+        &kept,
         seen,
         Blanks::of(SHARES),
     )

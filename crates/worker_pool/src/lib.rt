@@ -37,7 +37,9 @@ mod stream_readiness;
 mod tray;
 
 pub use closed::Closed;
-pub use gate_node::{GateNode, Open, Passes, PoolFault, Shared, Turnstile, replies_are_at_positions};
+pub use gate_node::{
+    GateNode, Open, Passes, PoolFault, Shared, Turnstile, replies_are_at_positions,
+};
 pub use job::{End, EndRead, EndWrite, Job};
 pub use job_pool::{JobFault, Jobs, Post, StreamReadiness};
 pub use laws::pool_replies_are_legal;

@@ -23,12 +23,6 @@ returns-in_default-open_stocks-clause-fault g c = ([], inl (inl refl))
 pub returns-in_default-open_stocks-clause-more : goal.returns-in_default-open_stocks-clause-more
 returns-in_default-open_stocks-clause-more g c = seen_same c.args.seen.now.primaries
 
-pub returns-in_default-new_kept-clause-fault : goal.returns-in_default-new_kept-clause-fault
-returns-in_default-new_kept-clause-fault g c = ([], inl (inl refl))
-
-pub returns-in_default-new_kept-clause-more : goal.returns-in_default-new_kept-clause-more
-returns-in_default-new_kept-clause-more g c = seen_same c.args.seen.now.primaries
-
 pub returns-in_default-new_places-clause-fault : goal.returns-in_default-new_places-clause-fault
 returns-in_default-new_places-clause-fault g c = ([], inl (inl refl))
 
@@ -54,7 +48,7 @@ settle-requires-clause-stocks g c =
     let count = c.in-Ok-stations_of.ensures.count in
     let room = c.in-Ok-new_places.ensures.room in
     let here = room.0 in
-    let len = c.len-3.ensures in
+    let len = c.len-2.ensures in
     let ok = c.args.seats.ok.0 in
     omega (arith, many, mapped, count, here, len, ok)
 
@@ -68,7 +62,7 @@ settle-requires-clause-sinks g c =
     let count = c.in-Ok-stations_of.ensures.count in
     let room = c.in-Ok-new_places.ensures.room in
     let here = room.1 in
-    let len = c.len-3.ensures in
+    let len = c.len-2.ensures in
     let ok = c.args.seats.ok.0 in
     omega (arith, many, mapped, count, here, len, ok)
 
@@ -82,7 +76,7 @@ settle-requires-clause-resting g c =
     let count = c.in-Ok-stations_of.ensures.count in
     let room = c.in-Ok-new_places.ensures.room in
     let here = room.2 in
-    let len = c.len-3.ensures in
+    let len = c.len-2.ensures in
     let ok = c.args.seats.ok.0 in
     omega (arith, many, mapped, count, here, len, ok)
 
