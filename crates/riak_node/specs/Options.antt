@@ -12,7 +12,7 @@ use Rattle.clap.specs.Simple.{subcommand_rows_of}
 use Rattle.clap.specs.declared.parser.matches.ArgMatches.{ArgMatches}
 use Rattle.clap.specs.declared.parser.matches.Found.{Found}
 use Rattle.riak_node.specs.declared.connection_lines.ConnectionLines.{ConnectionLines}
-use Rattle.riak_node.specs.declared.connection_lines.ConnectionLines.TheVariants.{All, Ends, Neither}
+use Rattle.riak_node.specs.declared.connection_lines.ConnectionLines.TheVariants.{Both, Ends, Neither}
 use Rattle.riak_node.specs.declared.subcommand.PipeOptions.{PipeOptions}
 use Rattle.riak_node.specs.declared.subcommand.ServeOptions.{ServeOptions}
 use Rattle.riak_node.specs.declared.subcommand.StepsOptions.{StepsOptions}
@@ -32,7 +32,7 @@ IsLocalhost None = ⊥
 
 -- the word for these lines of single connections
 abbrev pub word_of : ConnectionLines → List ℕ
-word_of All = codes "all"
+word_of Both = codes "all"
 word_of Ends = codes "ends"
 word_of Neither = codes "none"
 
@@ -60,7 +60,7 @@ module _ (found : Found) where
 
   -- which lines of single connections the log has: those of the word that was given, and all where none was
   pub record AreConnectionLines (lines : ConnectionLines) : Type 0 where
-    pub absent : first_value found (codes "log") ≡ None → lines ≡ All
+    pub absent : first_value found (codes "log") ≡ None → lines ≡ Both
     pub given : (named : ConnectionLines) → first_value found (codes "log") ≡ Some (word_of named) → lines ≡ named
 
   pub record ArePipeOptions (options : PipeOptions) : Type 0 where

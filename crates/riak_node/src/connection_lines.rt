@@ -12,7 +12,7 @@ const ENDS: &str = "socket_streams::log_sink";
 #[derive(Clone, Copy)]
 pub enum ConnectionLines {
     /// One when a connection comes, and one when it has ended.
-    All,
+    Both,
     /// One when it has ended.
     Ends,
     /// None, also of a connection that was refused, or ended by a fault.
@@ -24,7 +24,7 @@ impl ConnectionLines {
     pub(crate) fn have(self, level: Level, target: &str) -> bool {
         let is_begin = level == Level::Info && target == ARRIVALS;
         match self {
-            ConnectionLines::All => true,
+            ConnectionLines::Both => true,
             ConnectionLines::Ends => !is_begin,
             ConnectionLines::Neither => !is_begin && target != ENDS,
         }

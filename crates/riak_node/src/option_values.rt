@@ -95,7 +95,7 @@ fn lines(found: &ArgMatches<'_>) -> ConnectionLines
     match found.get_str("log") {
         Some("ends") => ConnectionLines::Ends,
         Some("none") => ConnectionLines::Neither,
-        _ => ConnectionLines::All,
+        _ => ConnectionLines::Both,
     }
 }
 

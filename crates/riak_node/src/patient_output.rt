@@ -19,7 +19,7 @@ const TRIES: u32 = 100;
 /// The pause between two tries, in milliseconds.
 const PAUSE_MILLIS: u64 = 10;
 
-/// Standard output. A terminal is waited for a second at most: then a write fails with `TimedOut`. Anything else is written as ever.
+/// Standard output. What a terminal doesn't take within a second is passed over. Anything else is written as ever.
 #[derive(Drop)]
 pub(crate) struct PatientOutput<R> {
     rt: R,
@@ -66,7 +66,7 @@ impl<R: Clock + Wait> Write for &PatientOutput<R> {
             }
             thread::sleep(&self.rt, Duration::from_millis(PAUSE_MILLIS));
         }
-        Err(ErrorKind::TimedOut.into())
+        Ok(buf.len())
     }
 
     fn flush(&mut self) -> io::Result<()> {
