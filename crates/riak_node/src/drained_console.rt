@@ -11,6 +11,14 @@ use std::fmt::Display;
 use std::io::Write;
 use std::rt::Clock;
 use std::sync::{Mutex, Wait};
+use std::thread;
+use std::time::Duration;
+
+/// How often the end of the log is tried where there is no room for it: for a second.
+const END_TRIES: u32 = 100;
+
+/// The pause between two tries, in milliseconds.
+const PAUSE_MILLIS: u64 = 10;
 
 /// What is written of the log, and how many lines weren't since it was said last.
 #[derive(Drop)]
@@ -78,7 +86,7 @@ impl Drain {
     }
 }
 
-/// A log on standard error, each line behind its time, that nobody waits for: where it is full, as a pipe or a terminal is that nobody reads, lines are passed over. How many, the
+/// A log on standard error, each line behind its time, that nobody waits for but its end: where it is full, as a pipe or a terminal is that nobody reads, lines are passed over. How many, the
 /// next line that is written is told by one before it, and `flush` tells it too. It takes no memory: a line of more than 4,096 bytes is cut.
 #[derive(Drop)]
 pub(crate) struct DrainedConsole<R: Wait> {
@@ -119,11 +127,15 @@ impl<R: Clock + Wait> Log for DrainedConsole<R> {
         drain.write_line(&self.rt, line);
     }
 
-    /// Writes what is left of the last line, and how many were passed over since it was told last, as far as that can be done without waiting.
+    /// Writes what is left of the last line, and how many were passed over since it was told last. Where there is no room for that, it is waited for, a second at most.
     fn flush(&self) {
         let mut drain = self.drain.lock(&self.rt);
-        drain.finish_last();
-        drain.tell_passed_over(&self.rt);
+        for _ in 0..END_TRIES {
+            if drain.finish_last() && drain.tell_passed_over(&self.rt) {
+                return;
+            }
+            thread::sleep(&self.rt, Duration::from_millis(PAUSE_MILLIS));
+        }
     }
 
     fn target(&self) -> &str {
