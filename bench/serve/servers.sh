@@ -1,13 +1,10 @@
 # Sourced by `many` and `tail`: starts `riak_node serve` or Redis, and asks it by `many.c`.
-set -euo pipefail
-cd "$(dirname "${BASH_SOURCE[0]}")/../.."
+. "$(dirname "${BASH_SOURCE[0]}")/../program.sh"
 workers=${WORKERS:-4}
-node=${NODE:-crates/riak_node/out/riak_node}
 work=$(mktemp -d)
 server=
 trap '[ -z "$server" ] || kill "$server" 2>/dev/null || true; rm -rf "$work"' EXIT
 
-if [ -z "${NODE:-}" ]; then (cd crates/riak_node && rt run -- --help >/dev/null); fi
 ulimit -n "$(ulimit -Hn)"
 cc -O2 -pthread bench/serve/many.c -o "$work/many"
 
