@@ -1,6 +1,6 @@
 //! A context: what a client has seen of a key, as the bytes that it gives back.
 
-ghost use Rattle.std.specs.Prelude.{◌≡◌, IsTrue, IfOk, IfErr, Some, ◌&&◌, is_some};
+ghost use Rattle.std.specs.Prelude.{◌≡◌, IsTrue, IfOk, IfErr, IfSome, Some, ◌&&◌, [], ◌∷◌, is_some};
 ghost use Rattle.std.specs.Option.{option_map};
 ghost use Rattle.std.specs.List.{list_all};
 ghost use Rattle.actor_epoch.specs.Dots.{covers, counter_in};
@@ -135,6 +135,20 @@ impl<'a> Context<'a> {
             version: self.version,
             count: self.count,
             entries: self.entries,
+        }
+    }
+
+    /// Its pair, where it has one alone, as most have; None where it has more.
+    #[inline(always)]
+    pub fn sole_pair(&self) -> Option<(Actor, Counter)>
+        ensures sole { IfSome result (λ pair. self.now ≡ entry_of pair ∷ []) }
+        ensures of_form { IsTrue (is_well_formed self.now) }
+    {
+        let mut pairs = self.pairs();
+        let pair = pairs.next()?;
+        match pairs.next() {
+            None => Some(pair),
+            Some(_) => None,
         }
     }
 

@@ -14,6 +14,7 @@ pub mod Rooms
 pub mod References
 pub mod ShownValues
 pub mod SetLaws
+pub mod Soles
 pub mod Sound
 pub mod Discards
 pub mod Emptied

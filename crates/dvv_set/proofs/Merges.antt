@@ -72,7 +72,7 @@ module _ {V : Type 0} where
       by false e =
           is_entry-of other.0 (length (take (other.0 - own.0 + length own.1) other.1)) positive (omega (arith, within, length-take (other.0 - own.0 + length own.1) other.1))
 
-  merged-none : (own : ℕ × List V) → length own.1 ≤ own.0 → merged own (0, []) ≡ own
+  pub merged-none : (own : ℕ × List V) → length own.1 ≤ own.0 → merged own (0, []) ≡ own
   merged-none own h =
       let t : nat_le 0 own.0 ≡ true = grind (arith, nat_tests) in
       ap (λ b. cond b (own.0, take (own.0 - 0 + 0) own.1) (0, take (0 - own.0 + length own.1) (let none : List V = [] in none))) t

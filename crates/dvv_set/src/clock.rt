@@ -328,6 +328,10 @@ impl<V: MadeWith<Global> + Drop> Clock<V> {
         ensures { self.new.meaning
             ≡ event actor value (without (pairs_of context.entry) self.old.meaning) }
     {
+        if let Some(seen) = room::sole_seen(&self.entries, context, actor) {
+            merging::put_sole(&mut self.entries, seen, value);
+            return;
+        }
         let alloc = self.entries.allocator();
         merging::merge_context(alloc, &mut self.entries, context);
         entry::put_value(alloc, &mut self.entries, actor, value);

@@ -222,7 +222,7 @@ fn put_first<V: MadeWith<Global> + Drop>(values: &mut EntryValues<V>, value: V)
 
 /// Counts one more, and puts its value before the others, for which there is room.
 #[inline(always)]
-fn add_value<V: MadeWith<Global> + Drop>(entry: &mut Entry<V>, value: V)
+pub(crate) fn add_value<V: MadeWith<Global> + Drop>(entry: &mut Entry<V>, value: V)
     requires counter { entry.old.pair.counter < MAX_COUNTER }
     requires room { IsTrue (has_room entry.old) }
     ensures { clock_entry entry.new

@@ -1,20 +1,20 @@
 //! What entries take in from other entries and from the pairs of a context.
 
-ghost use Rattle.std.specs.Prelude.{◌≡◌, ◌≤◌, ◌<◌, ◌+◌, List, T, IsTrue, length, take, [], Some};
+ghost use Rattle.std.specs.Prelude.{◌≡◌, ◌≤◌, ◌<◌, ◌+◌, ◌∷◌, List, ℕ, T, IsTrue, length, map, max, take, [], Some};
 ghost use Rattle.std.specs.declared.cmp.Ordering.TheVariants.{Less};
 ghost use Rattle.std.specs.FinMap.Entries.{is_sorted};
 ghost use Rattle.std.specs.List.{list_all};
 ghost use Rattle.actor_epoch.specs.Dots.{actor_cmp};
-ghost use Rattle.dvv_set.specs.ClockEntries.{is_entry, merged, merge_entry, merge_all, entries_of_pairs, AreEntries, entries_without};
+ghost use Rattle.dvv_set.specs.ClockEntries.{is_entry, merged, merge_entry, merge_all, entries_of_pairs, put_after, AreEntries, entries_without};
 ghost use Rattle.actor_epoch.specs.Contexts.{is_well_formed};
 ghost use Rattle.actor_epoch.specs.declared.Actor.{Actor};
 ghost use Rattle.actor_epoch.specs.declared.Dot.{Dot};
 ghost use Rattle.dvv_set.specs.Held.{pairs_of};
 ghost use Rattle.dvv_set.specs.Stored.{actor_of, are_below, clock_entry, clock_entries, has_room};
 
-use crate::entry::{Entries, Entry, KnownPair, Place, search_behind};
+use crate::entry::{Entries, Entry, KnownPair, Place, add_value, search_behind};
 use crate::inline::InlineList;
-use actor_epoch::{Actor, Context, ContextPairs, Counter};
+use actor_epoch::{Actor, Context, ContextPairs, Counter, MAX_COUNTER};
 use std::alloc::Global;
 use std::default::MadeWith;
 
@@ -86,10 +86,36 @@ fn cover<V: MadeWith<Global> + Drop>(own: &mut Entry<V>, counter: Counter)
 {
     if counter <= own.pair.counter {
         let kept = (own.pair.counter - counter) as usize;
-        own.values.truncate(kept);
+        if kept < own.values.len() {
+            own.values.truncate(kept);
+        }
     } else {
         own.values.truncate(0);
         own.pair.counter = counter;
+    }
+}
+
+/// Puts a value in front of the others of the one entry that there is, with its next counter, and drops those up to a counter
+/// that was seen; the entry has room for one more.
+#[inline(always)]
+pub(crate) fn put_sole<V: MadeWith<Global> + Drop>(
+    entries: &mut Entries<V>,
+    seen: Counter,
+    value: V,
+)
+    requires one { length entries.old.items ≡ 1 }
+    requires counter { (entry : Actor × (ℕ × List V)) → clock_entries entries.old.items ≡ entry ∷ []
+        → max entry.1.0 seen < MAX_COUNTER }
+    requires rooms { IsTrue (list_all has_room entries.old.items) }
+    ensures { clock_entries entries.new.items
+        ≡ map (put_after seen value) (clock_entries entries.old.items) }
+{
+    match entries.get_mut(0) {
+        Some(entry) => {
+            cover(entry, seen);
+            add_value(entry, value);
+        }
+        None => unreachable!(),
     }
 }
 

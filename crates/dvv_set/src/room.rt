@@ -1,13 +1,13 @@
 //! What a change of a clock needs: how many actors are new, and room for them.
 
-ghost use Rattle.std.specs.Prelude.{◌≡◌, ◌≤◌, ◌<◌, ◌+◌, ◌-◌, List, [], IsTrue, length, min, max, unwrap_or, ◌↔◌, OnOk, IfErr, Some, T};
+ghost use Rattle.std.specs.Prelude.{◌≡◌, ◌≤◌, ◌<◌, ◌+◌, ◌-◌, List, [], IsTrue, length, min, max, unwrap_or, ◌↔◌, OnOk, IfErr, IfSome, Some, T};
 ghost use Rattle.std.specs.FinMap.Entries.{is_sorted};
 ghost use Rattle.actor_epoch.specs.declared.Actor.{Actor};
 ghost use Rattle.actor_epoch.specs.declared.Dot.{Dot};
 ghost use Rattle.actor_epoch.specs.Contexts.{is_well_formed};
 ghost use Rattle.actor_epoch.specs.Dots.{counter_in, actor_cmp};
 ghost use Rattle.dvv_set.specs.Held.{pairs_of, actors_after, counter_before};
-ghost use Rattle.dvv_set.specs.ClockEntries.{AreEntries, known_of, entries_of_pairs, count_new, count_uncovered, newer};
+ghost use Rattle.dvv_set.specs.ClockEntries.{AreEntries, IsSole, known_of, entries_of_pairs, count_new, count_uncovered, newer};
 ghost use Rattle.dvv_set.specs.Stored.{actor_of, clock_entry, clock_entries};
 
 use crate::entry::{Entries, Entry, Place, has, last_counter, search_actor};
@@ -54,6 +54,35 @@ pub(crate) fn count_new_pairs<V>(entries: &[Entry<V>], pairs: ContextPairs<'_>) 
         }
     }
     new
+}
+
+/// The counter up to which a context has seen the dots of an actor, 0 without one, where the actor alone has an entry and the
+/// context has a pair of no other; None elsewhere. So it is of most writes.
+#[inline(always)]
+pub(crate) fn sole_seen<V>(
+    entries: &[Entry<V>],
+    context: Option<&Context<'_>>,
+    actor: Actor,
+) -> Option<Counter>
+    ensures sole { IfSome result (λ seen.
+        IsSole (clock_entries entries.now) (pairs_of context.entry) actor seen) }
+    ensures of_form { IfSome result (λ _. (ps : List Dot) → pairs_of context.entry ≡ Some ps
+        → IsTrue (is_well_formed ps)) }
+{
+    let (entry, rest) = entries.split_first()?;
+    if !rest.is_empty() || entry.pair.actor() != actor {
+        return None;
+    }
+    match context {
+        None => Some(0),
+        Some(context) => {
+            let (other, counter) = context.sole_pair()?;
+            if other != actor {
+                return None;
+            }
+            Some(counter)
+        }
+    }
 }
 
 /// What a context adds to entries: the counter of an actor in it, and how many of its actors are new.
@@ -138,6 +167,9 @@ pub(crate) fn more_entries<V>(
     ensures of_form { (ps : List Dot) → pairs_of context.entry ≡ Some ps
         → IsTrue (is_well_formed ps) }
 {
+    if let Some(_seen) = sole_seen(entries, context, actor) {
+        return 0;
+    }
     let new = count_new_in(entries, context);
     let own = last_counter(entries, actor);
     if own != 0 {

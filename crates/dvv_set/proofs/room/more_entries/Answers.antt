@@ -4,8 +4,15 @@ use Rattle.actor_epoch.specs.Dots.{counter_in}
 use Rattle.dvv_set.specs.Held.{pairs_of}
 use Rattle.dvv_set.specs.Stored.{clock_entries}
 use Rattle.dvv_set.proofs.Stored.{length-clock_entries}
+use Rattle.dvv_set.proofs.Soles.{after-sole}
 use Rattle.dvv_set.proofs.Ready.{after-length, after-new, no_more, own_counts, seen-is}
 use Rattle.dvv_set.proofs.room.more_entries.Goals as goal
+
+pub returns-in-Some-clause-enough : goal.returns-in-Some-clause-enough
+returns-in-Some-clause-enough g c =
+    let entries = clock_entries c.args.entries.now in
+    let same = after-sole entries (pairs_of c.args.context) c.args.actor _ c.in-Some.ensures.of_form c.requires.entries c.in-Some.ensures.sole in
+    omega (arith, same, length-clock_entries c.args.entries.now)
 
 pub count_new_in-new-requires : goal.count_new_in-new-requires
 count_new_in-new-requires g c = let fits = c.well_formed in (omega arith, c.requires.entries.sorted)

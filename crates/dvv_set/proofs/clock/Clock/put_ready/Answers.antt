@@ -9,7 +9,30 @@ use Rattle.dvv_set.specs.Stored.{clock_entries}
 use Rattle.dvv_set.proofs.Stored.{length-clock_entries}
 use Rattle.dvv_set.proofs.Ready.{ready-entries, ready-next, ready-counter, ready-length, ready-room, ready-meaning}
 use Rattle.dvv_set.proofs.Rooms.{room-each}
+use Rattle.dvv_set.proofs.Soles.{counter-sole, put-sole}
 use Rattle.dvv_set.proofs.clock.Clock.put_ready.Goals as goal
+
+pub put_sole-requires : goal.put_sole-requires
+put_sole-requires g c =
+    let own = clock_entries c.self.inside.entries.items in
+    let pairs = option_map (λ context. context.now) c.args.context in
+    let sole = rw c.deref.ensures at c.in-Some.ensures.sole in
+    let counter = ap (λ held. counter_in (known_with pairs held.meaning.known) c.args.actor) c.self.view_is in
+    let room = ap (λ held. held.values_room) c.self.view_is in
+    let one = ap length sole.is in
+    let size = c.well_formed in (
+      omega arith,
+      (
+        omega arith,
+        (
+          omega (arith, one, length-clock_entries c.self.inside.entries.items),
+          (
+            λ entry is. (let last = counter-sole own pairs c.args.actor _ c.requires.of_form c.self.invariant.entries sole entry is in omega (arith, last, counter, c.requires.counter)),
+            room-each c.self.inside.entries.items (length (values_of c.args.actor c.args.self.now.meaning.live)) (omega (arith, room, c.requires.values)),
+          ),
+        ),
+      ),
+    )
 
 pub merge_context-requires : goal.merge_context-requires
 merge_context-requires g c =
@@ -52,6 +75,27 @@ put_value-requires g c =
 
 pub invariant_of-self : goal.invariant_of-self
 invariant_of-self g c =
+    let own = clock_entries c.self.inside.entries.items in
+    let pairs = option_map (λ context. context.now) c.args.context in
+    let put_is = c.put_sole.ensures ∙ put-sole own pairs c.args.actor _ c.args.value c.self.invariant.entries (rw c.deref.ensures at c.in-Some.ensures.sole) in
+    let long = ap length put_is ∙ ready-length own pairs c.requires.of_form c.self.invariant.entries c.args.actor c.args.value in
+    let same = ap (λ held. length (known_after c.args.actor (known_with pairs held.meaning.known))) c.self.view_is in
+    record {
+      entries = rw put_is (ready-next own pairs c.requires.of_form c.self.invariant.entries c.args.actor c.args.value);
+      few = omega (arith, long, same, length-clock_entries c.put_sole.new.entries.items, c.requires.few);
+    }
+
+pub returns-in-Some : goal.returns-in-Some
+returns-in-Some g c =
+    let own = clock_entries c.self.inside.entries.items in
+    let pairs = option_map (λ context. context.now) c.args.context in
+    let put_is = c.put_sole.ensures ∙ put-sole own pairs c.args.actor _ c.args.value c.self.invariant.entries (rw c.deref.ensures at c.in-Some.ensures.sole) in
+    ap dot_state_of put_is
+    ∙ ready-meaning own pairs c.requires.of_form c.self.invariant.entries c.args.actor c.args.value
+    ∙ ap (λ held. event c.args.actor c.args.value (without pairs held.meaning)) c.self.view_is
+
+pub invariant_of-self-2 : goal.invariant_of-self-2
+invariant_of-self-2 g c =
     let own = clock_entries c.self.inside.entries.items in
     let pairs = option_map (λ context. context.now) c.args.context in
     let put_is =
