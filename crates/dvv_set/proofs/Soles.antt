@@ -14,10 +14,12 @@ use Rattle.actor_epoch.specs.Contexts.{is_well_formed}
 use Rattle.actor_epoch.proofs.Order.{actor_cmp_total, actor_eq-itself}
 use Rattle.actor_epoch.proofs.Rising.{and_first}
 use Rattle.dvv_set.specs.Held.{known_with, known_after}
-use Rattle.dvv_set.specs.ClockEntries.{ClockEntries, AreEntries, IsSole, SawAlone, known_of, is_entry, entry_for, merged, merge_entry, with_value, put_after, entries_of_pairs, entries_without, count_new}
+use Rattle.dvv_set.specs.ClockEntries.{ClockEntries, AreEntries, known_of, is_entry, entry_for, merged, merge_entry, with_value, entries_of_pairs, entries_without, count_new}
 use Rattle.dvv_set.proofs.ClockEntries.{is_entry-within, is_entry-positive}
 use Rattle.dvv_set.proofs.Merges.{merged-none}
+use Rattle.dvv_set.proofs.Pairs.{covered-own_more}
 use Rattle.dvv_set.specs.declared.entry.Entry.{Entry}
+use Rattle.dvv_set.specs.Soles.{SawAlone, IsSole, put_after}
 use Rattle.dvv_set.specs.Stored.{clock_entry, clock_entries}
 use Rattle.dvv_set.proofs.Ready.{seen-is, after-length}
 
@@ -29,6 +31,11 @@ pub only-item : {A : Type 0} (items : List A) (x : A) → length items ≡ 1 →
 only-item [] x one is = absurd (omega arith)
 only-item (y ∷ []) x one is = ap (λ z. z ∷ []) (sym is)
 only-item (y ∷ z ∷ items) x one is = absurd (omega arith)
+
+pub set-one : {A : Type 0} (items : List A) (x : A) → length items ≡ 1 → set items 0 x ≡ x ∷ []
+set-one [] x one = absurd (omega arith)
+set-one (y ∷ []) x one = refl
+set-one (y ∷ z ∷ items) x one = absurd (omega arith)
 
 module _ {V : Type 0} (a : Actor) (e : ℕ × List V) where
   abbrev one : ℕ × List V → ClockEntries V
@@ -51,6 +58,12 @@ module _ {V : Type 0} where
       by : (b : Bool) → nat_le n own.0 ≡ b → (let e : ℕ × List V = cond b (own.0, take (own.0 - n + 0) own.1) (n, take (n - own.0 + length own.1) []) in e).0 ≡ max own.0 n
       by true h = let within : n ≤ own.0 = grind (arith, nat_tests) in omega (arith, within)
       by false h = let above : own.0 < n = grind (arith, nat_tests) in omega (arith, above)
+
+  -- an entry all of whose dots the pair has
+  pub all-merged : (own : ℕ × List V) (n : ℕ) → own.0 ≡ n → merged own (n, []) ≡ (own.0, [])
+  all-merged own n is =
+      covered-own_more own n (omega (arith, is))
+      ∙ (let none : own.0 - n ≡ 0 = omega (arith, is) in ap (λ k. (own.0, take k own.1)) none)
 
   -- an entry in the place of the only one
   pub set-only : (items : List (Entry V)) (entry next : Entry V) (f : Actor × (ℕ × List V) → Actor × (ℕ × List V)) → items ≡ entry ∷ [] → clock_entry next ≡ f (clock_entry entry)

@@ -1,5 +1,5 @@
 -- The entries of a clock as the dvvset module has them, (actor, n, values), and what they mean.
-use Rattle.std.specs.Prelude.{◌≡◌, Bool, ◌&&◌, if◌then◌else◌, List, [], ◌∷◌, ◌+◌, ◌-◌, ℕ, length, take, map, min, flat_map, unwrap_or, nat_le, Option, Some, None, T, IsTrue, is_some, cond}
+use Rattle.std.specs.Prelude.{Bool, ◌&&◌, if◌then◌else◌, List, [], ◌∷◌, ◌+◌, ◌-◌, ℕ, length, take, map, min, flat_map, unwrap_or, nat_le, Option, Some, None, T, IsTrue, is_some, cond}
 use Rattle.std.specs.List.{list_all}
 use Rattle.std.specs.FinMap.Entries.{find, put, is_sorted}
 use Rattle.actor_epoch.specs.declared.Actor.{Actor}
@@ -10,11 +10,6 @@ use Rattle.dvv_set.specs.Clocks.{DotState}
 -- (actor, (n, values)), one for each actor
 abbrev pub ClockEntries : Type 0 → Type 0
 ClockEntries V = List (Actor × (ℕ × List V))
-
--- pairs that saw the dots of one actor alone, up to this counter; none saw the dot 0
-abbrev pub SawAlone : Option (List Dot) → Actor → ℕ → Type 0
-SawAlone None actor seen = seen ≡ 0
-SawAlone (Some pairs) actor seen = pairs ≡ record { actor = actor; counter = seen } ∷ []
 
 module _ {V : Type 0} where
   -- values, newest first, with their dots: n, n - 1, and so on
@@ -73,16 +68,6 @@ module _ {V : Type 0} where
   -- the entry of an actor with one value more
   abbrev pub with_value : V → ℕ × List V → ℕ × List V
   with_value value entry = (entry.0 + 1, value ∷ entry.1)
-
-  -- an entry with one value more, without those up to a counter
-  abbrev pub put_after : ℕ → V → Actor × (ℕ × List V) → Actor × (ℕ × List V)
-  put_after seen value entry = (entry.0, with_value value (merged entry.1 (seen, [])))
-
-  -- an actor alone has an entry, and pairs saw its dots alone
-  pub record IsSole (entries : ClockEntries V) (pairs : Option (List Dot)) (actor : Actor) (seen : ℕ) : Type 0 where
-    pub entry : ℕ × List V
-    pub is : entries ≡ (actor, entry) ∷ []
-    pub saw : SawAlone pairs actor seen
 
   -- how many of others have actors that are new
   abbrev pub count_new : ClockEntries V → ClockEntries V → ℕ

@@ -1,6 +1,7 @@
 pub mod Clocks
 pub mod ClockEntries
 pub mod Stored
+pub mod Soles
 pub mod Held
 pub mod Laws
 pub mod References

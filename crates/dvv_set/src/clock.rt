@@ -251,6 +251,7 @@ impl<V: MadeWith<Global> + Drop> Clock<V> {
 
     /// Whether more than 64 actors would be known after the next event of an actor, without what a context saw (None:
     /// nothing). Where its own actors and the context's are fewer than 64 together, they aren't compared.
+    #[inline(always)]
     pub fn is_actors_full(&self, context: Option<&Context<'_>>, actor: Actor) -> bool
         ensures full { result ≡ true
             → IsActorsFull self.now.meaning.known (pairs_of context.entry) actor }
@@ -266,6 +267,7 @@ impl<V: MadeWith<Global> + Drop> Clock<V> {
 
     /// Makes room to put a value for an actor without what a context saw (None: nothing), where what that needs is within
     /// the limits (a condition); no value changes. Refused where there is no memory.
+    #[inline(always)]
     pub fn reserve(&mut self, context: Option<&Context<'_>>, actor: Actor) -> Result<(), AllocError>
         requires { IsWithin self.old.meaning.known (pairs_of context) actor }
         ensures ready { OnOk result (IsReady self.new (pairs_of context.entry) actor) }
@@ -323,6 +325,7 @@ impl<V: MadeWith<Global> + Drop> Clock<V> {
 
     /// Puts a value at the next dot of an actor, without what a context saw, in the room that `ready` made: it takes no
     /// memory and succeeds.
+    #[inline(always)]
     pub fn put_ready(&mut self, context: Option<&Context<'_>>, actor: Actor, value: V)
         requires { IsReady self.old (pairs_of context) actor }
         ensures { self.new.meaning

@@ -232,6 +232,21 @@ pub(crate) fn add_value<V: MadeWith<Global> + Drop>(entry: &mut Entry<V>, value:
     entry.pair.counter += 1;
 }
 
+/// Counts one more, and puts its value in the place of the only one.
+#[inline(always)]
+pub(crate) fn replace_value<V: MadeWith<Global> + Drop>(entry: &mut Entry<V>, value: V)
+    requires counter { entry.old.pair.counter < MAX_COUNTER }
+    requires one { length entry.old.values.items ≡ 1 }
+    ensures { clock_entry entry.new
+        ≡ (actor_of entry.old.pair, (entry.old.pair.counter + 1, value ∷ [])) }
+{
+    match entry.values.get_mut(0) {
+        Some(place) => *place = value,
+        None => unreachable!(),
+    }
+    entry.pair.counter = entry.pair.counter + 1;
+}
+
 /// Drops the values of all entries; what they have seen stays.
 pub(crate) fn drop_values<V: MadeWith<Global> + Drop>(entries: &mut Entries<V>)
     ensures emptied { clock_entries entries.new.items

@@ -94,11 +94,17 @@ impl<T: MadeWith<Global> + Drop, const N: usize> InlineList<T, N> {
     }
 
     /// Makes room for more items. Refused where there is no memory, and then nothing changes.
+    #[inline(always)]
     pub(crate) fn reserve(&mut self, more: usize) -> Result<(), AllocError>
         ensures items { self.new.items ≡ self.old.items }
         ensures ok { OnOk result (length self.old.items + more ≤ self.new.capacity) }
         ensures capacity { self.old.capacity ≤ self.new.capacity }
     {
+        let room = self.content.capacity();
+        // Mostly there is room, and no call is made.
+        if more <= room && self.content.len() <= room - more {
+            return Ok(());
+        }
         self.content.reserve(more)
     }
 

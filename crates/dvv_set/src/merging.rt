@@ -1,18 +1,19 @@
 //! What entries take in from other entries and from the pairs of a context.
 
-ghost use Rattle.std.specs.Prelude.{◌≡◌, ◌≤◌, ◌<◌, ◌+◌, ◌∷◌, List, ℕ, T, IsTrue, length, map, max, take, [], Some};
+ghost use Rattle.std.specs.Prelude.{◌≡◌, ◌≤◌, ◌<◌, ◌+◌, ◌∷◌, List, ℕ, T, IsTrue, length, map, max, take, true, [], Some};
 ghost use Rattle.std.specs.declared.cmp.Ordering.TheVariants.{Less};
 ghost use Rattle.std.specs.FinMap.Entries.{is_sorted};
 ghost use Rattle.std.specs.List.{list_all};
 ghost use Rattle.actor_epoch.specs.Dots.{actor_cmp};
-ghost use Rattle.dvv_set.specs.ClockEntries.{is_entry, merged, merge_entry, merge_all, entries_of_pairs, put_after, AreEntries, entries_without};
+ghost use Rattle.dvv_set.specs.ClockEntries.{is_entry, merged, merge_entry, merge_all, entries_of_pairs, AreEntries, entries_without};
+ghost use Rattle.dvv_set.specs.Soles.{put_after};
 ghost use Rattle.actor_epoch.specs.Contexts.{is_well_formed};
 ghost use Rattle.actor_epoch.specs.declared.Actor.{Actor};
 ghost use Rattle.actor_epoch.specs.declared.Dot.{Dot};
 ghost use Rattle.dvv_set.specs.Held.{pairs_of};
 ghost use Rattle.dvv_set.specs.Stored.{actor_of, are_below, clock_entry, clock_entries, has_room};
 
-use crate::entry::{Entries, Entry, KnownPair, Place, add_value, search_behind};
+use crate::entry::{Entries, Entry, KnownPair, Place, add_value, replace_value, search_behind};
 use crate::inline::InlineList;
 use actor_epoch::{Actor, Context, ContextPairs, Counter, MAX_COUNTER};
 use std::alloc::Global;
@@ -95,6 +96,15 @@ fn cover<V: MadeWith<Global> + Drop>(own: &mut Entry<V>, counter: Counter)
     }
 }
 
+/// Whether an entry has one value alone, and its dot is the counter that was seen.
+#[inline(always)]
+fn is_all_seen<V>(entry: &Entry<V>, seen: Counter) -> bool
+    ensures { result ≡ true
+        → (entry.now.pair.counter ≡ seen) × (length entry.now.values.items ≡ 1) }
+{
+    entry.pair.counter == seen && entry.values.len() == 1
+}
+
 /// Puts a value in front of the others of the one entry that there is, with its next counter, and drops those up to a counter
 /// that was seen; the entry has room for one more.
 #[inline(always)]
@@ -112,6 +122,11 @@ pub(crate) fn put_sole<V: MadeWith<Global> + Drop>(
 {
     match entries.get_mut(0) {
         Some(entry) => {
+            // So it is of a writer that has seen the last one: one value takes another's place.
+            if is_all_seen(entry, seen) {
+                replace_value(entry, value);
+                return;
+            }
             cover(entry, seen);
             add_value(entry, value);
         }

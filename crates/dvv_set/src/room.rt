@@ -7,7 +7,8 @@ ghost use Rattle.actor_epoch.specs.declared.Dot.{Dot};
 ghost use Rattle.actor_epoch.specs.Contexts.{is_well_formed};
 ghost use Rattle.actor_epoch.specs.Dots.{counter_in, actor_cmp};
 ghost use Rattle.dvv_set.specs.Held.{pairs_of, actors_after, counter_before};
-ghost use Rattle.dvv_set.specs.ClockEntries.{AreEntries, IsSole, known_of, entries_of_pairs, count_new, count_uncovered, newer};
+ghost use Rattle.dvv_set.specs.ClockEntries.{AreEntries, known_of, entries_of_pairs, count_new, count_uncovered, newer};
+ghost use Rattle.dvv_set.specs.Soles.{IsSole};
 ghost use Rattle.dvv_set.specs.Stored.{actor_of, clock_entry, clock_entries};
 
 use crate::entry::{Entries, Entry, Place, has, last_counter, search_actor};
@@ -110,6 +111,7 @@ fn context_counts<V>(
 
 /// As many actors as can be known after the next event of one, without what a context saw: those of the entries, those of
 /// the context, and one.
+#[inline(always)]
 pub(crate) fn most_actors<V>(entries: &[Entry<V>], context: Option<&Context<'_>>) -> usize
     requires entries { AreEntries (clock_entries entries.now) }
     requires few { length entries.now ≤ 64 }

@@ -6,7 +6,6 @@ use Rattle.actor_epoch.specs.declared.Dot.{Dot}
 use Rattle.actor_epoch.specs.Dots.{actor_eq}
 use Rattle.actor_epoch.proofs.Order.{actor_eq-same}
 use Rattle.dvv_set.specs.Held.{pairs_of}
-use Rattle.dvv_set.specs.ClockEntries.{IsSole}
 use Rattle.dvv_set.specs.Stored.{actor_of, clock_entry, clock_entries}
 use Rattle.dvv_set.proofs.Rooms.{none_items}
 use Rattle.dvv_set.proofs.room.sole_seen.Goals as goal
