@@ -95,7 +95,8 @@ impl HandoffTracks {
     /// Keeps that a partition was diverted, whose index is below the ring's size.
     pub fn begin(&mut self, index: u16)
         requires { index < length self.old }
-        ensures { (old new : HandoffView) → HaveTracks old self.old → IsDiverted index old new → HaveTracks new self.new }
+        ensures { (old new : HandoffView) → HaveTracks old self.old → IsDiverted index old new
+            → HaveTracks new self.new }
     {
         let track = self.take(index);
         self.keep(index, track.begun());
@@ -113,7 +114,9 @@ impl HandoffTracks {
     ) -> Result<CopiedBack, HandoffFault>
         requires index { index < 2 ^ handoff.now.index_bits }
         requires tracks { HaveTracks handoff.now self.old }
-        ensures ok { IfOk result (λ told. (copied : CopyBack) × IsCopiedBack handoff.now index budget copied × (told.keys ≡ copied.keys) × (told.left ≡ copied.left)) }
+        ensures ok { IfOk result (λ told. (copied : CopyBack)
+            × IsCopiedBack handoff.now index budget copied × (told.keys ≡ copied.keys)
+            × (told.left ≡ copied.left)) }
         ensures fault { IfErr result (IsCopyFault handoff.now index) }
         ensures err { OnErr result (self.new ≡ self.old) }
         ensures tracks { HaveTracks handoff.now self.new }
@@ -155,7 +158,8 @@ impl HandoffTracks {
     ) -> Result<(), HandoffFault>
         requires index { index < 2 ^ handoff.now.index_bits }
         requires tracks { HaveTracks handoff.now self.old }
-        ensures ok { IfOk result (λ _. (passes : ReturnPasses) × HasReturned handoff.now index passes) }
+        ensures ok { IfOk result (λ _. (passes : ReturnPasses)
+            × HasReturned handoff.now index passes) }
         ensures fault { IfErr result (IsReturnFault handoff.now index) }
         ensures err { OnErr result (self.new ≡ self.old) }
         ensures tracks { HaveTracks handoff.now self.new }

@@ -10,5 +10,6 @@ ghost use Rattle.handoff_tracks.specs.declared.track.HandoffTrack.{HandoffTrack}
 /// siblings at the primary are the joint ones behind the last return: the writes and tombstones of any side that no command of any side saw. It asks only that
 /// each context which a command of the key carried had been shown for it.
 pub fn known_hand_offs_join()
-    ensures { (handoff : HandoffView) (tracks : List HandoffTrack) → HaveTracks handoff tracks → AllJoined handoff tracks }
+    ensures { (handoff : HandoffView) (tracks : List HandoffTrack) → HaveTracks handoff tracks
+        → AllJoined handoff tracks }
 {}

@@ -66,7 +66,8 @@ fn from_of(from: u64, last: &Option<Copied>, next: &Copied) -> Option<u64>
 impl Copies {
     /// None.
     fn none() -> Copies
-        ensures { (primary : GateId View) (fallback : FallbackView) → WereMade primary fallback result [] }
+        ensures { (primary : GateId View) (fallback : FallbackView)
+            → WereMade primary fallback result [] }
     {
         Copies {
             keys: 0,
@@ -161,7 +162,8 @@ impl HandoffTrack {
     pub(crate) fn ended(self, fallback: &Fallback, passes: Returned) -> HandoffTrack
         requires { CanEnd self fallback.now passes }
         ensures { (handoff : HandoffView) (index : ℕ)
-            → slice_get handoff.fallbacks index ≡ Some (Some fallback.now) → IsTrack handoff index self
+            → slice_get handoff.fallbacks index ≡ Some (Some fallback.now)
+            → IsTrack handoff index self
             → HasReturned handoff index passes → IsTrack handoff index result }
     {
         match self {
