@@ -195,6 +195,51 @@ const CASES: &[Case] = &[
         answers: &[Holds(&[(A, 3)], b"xw")],
         ..NEW_CLOCK
     },
+    // (5, [e, d, c, b, a]) behind (A, 2) keeps the newest three.
+    Case {
+        shows: "of the one actor's values those that were seen go",
+        first: FIVE,
+        steps: &[Put(SEEN_2, A, Some(b'f'))],
+        answers: &[Holds(&[(A, 6)], b"fedc")],
+        ..NEW_CLOCK
+    },
+    // The second context is behind the counter, and the third ahead of it.
+    Case {
+        shows: "a value takes the place of the only one, where that was seen",
+        steps: &[
+            Event(A, b'v'),
+            Put(SEEN_1, A, Some(b'w')),
+            Put(SEEN_1, A, Some(b'x')),
+            Put(SEEN_2, A, None),
+            Discard(SEEN_2),
+            Put(SEEN_3, A, Some(b'y')),
+            Put(SEEN_MANY, A, Some(b'z')),
+        ],
+        answers: &[Holds(&[(A, 4_294_967_296)], b"z")],
+        ..NEW_CLOCK
+    },
+    Case {
+        shows: "a put behind nothing leaves all values of the one actor",
+        steps: &[
+            Event(A, b'v'),
+            Put(b"", A, Some(b'w')),
+            Put(b"", A, Some(b'x')),
+        ],
+        answers: &[Holds(&[(A, 3)], b"xwv")],
+        ..NEW_CLOCK
+    },
+    Case {
+        shows: "a context of other actors too makes these known beside the one actor",
+        steps: &[Event(A, b'v'), Put(SEEN_A_C_D, A, Some(b'w'))],
+        answers: &[Holds(&[(A, 2), (C, 1), (D, 3)], b"w")],
+        ..NEW_CLOCK
+    },
+    Case {
+        shows: "a put at another actor leaves the one actor's counter",
+        steps: &[Event(A, b'v'), Put(SEEN_1, B, Some(b'p'))],
+        answers: &[Holds(&[(A, 1), (B, 1)], b"p")],
+        ..NEW_CLOCK
+    },
     // All dots of A are known, and none has a value.
     Case {
         shows: "no dot is left",

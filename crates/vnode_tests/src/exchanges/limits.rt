@@ -3,7 +3,7 @@
 use crate::exchanges::asking::{go_as_expected, taken_from};
 use crate::exchanges::steps::{
     Ask, AskTimes, Counts, Done, Exchange, FIRST, Get, NEW_VNODE, NONE, NOTHING, Put,
-    PutAfterOthers, Refused, Reply, Shows, Step, V, W,
+    PutAfterOthers, Refused, Reply, SECOND, Shows, Step, V, W,
 };
 use std::process::Abort;
 use vnode_core::Refusal;
@@ -28,6 +28,21 @@ const EXCHANGES: &[Exchange] = &[
             Get(b"k", SHOWS_64),
             Ask(Put(b"k", b"w", SIXTY_FOURTH), Done),
             Get(b"k", Shows(&[W], SIXTY_FIFTH)),
+        ],
+        ..NEW_VNODE
+    },
+    // Of 64 the context covers the first; then it covers none, and 64 stay; then the second.
+    Exchange {
+        shows: "a context that covers a sibling makes place for one",
+        steps: &[
+            AskTimes(63, Put(b"k", b"v", NONE), Done),
+            Get(b"k", Counts(63, 21)),
+            Ask(Put(b"k", b"v", NONE), Done),
+            Ask(Put(b"k", b"w", FIRST), Done),
+            Get(b"k", Counts(64, 21)),
+            Ask(Put(b"k", b"w", FIRST), Refused(Refusal::TooManySiblings)),
+            Ask(Put(b"k", b"w", SECOND), Done),
+            Get(b"k", Counts(64, 21)),
         ],
         ..NEW_VNODE
     },
