@@ -57,7 +57,7 @@ class Node:
             return cls.running(int(words[1]))
         if len(words) == 2 and words[1] == "--pipe":
             return cls.piping(words[0])
-        return cls.serving(words[0]) if len(words) == 1 else None
+        return cls.serving(words[0]) if len(words) == 1 and not words[0].startswith("-") else None
 
     def end(self):
         """Ends the client's connection, and waits for a node that was started to end. Its exit status is returned, or None."""

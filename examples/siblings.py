@@ -32,6 +32,9 @@ def add(client, seen, item):
 
 
 def main():
+    if sys.argv[1:] in (["--help"], ["-h"]):
+        print(__doc__)
+        return
     node = Node.of_words(sys.argv[1:])
     if not node:
         sys.exit(__doc__)
