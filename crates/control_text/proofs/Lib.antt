@@ -2,3 +2,5 @@ mod OneLine
 mod Numbers
 mod Texts
 mod OneCommand
+mod Words
+mod Indices

@@ -4,9 +4,9 @@ use Rattle.std.specs.Prelude.{decimal}
 use Rattle.std.proofs.lemmas.Fmt.{decimal_injective}
 use Rattle.std.proofs.lemmas.List.{append_cancel_left, append_cancel_right}
 use Rattle.control_text.specs.declared.command.Command.{Command}
-use Rattle.control_text.specs.declared.command.Command.TheVariants.{Totals, Divert, Copy, Return, Stop}
+use Rattle.control_text.specs.declared.command.Command.TheVariants.{Help, Totals, Diverted, Divert, Copy, Return, Stop}
 use Rattle.control_text.specs.Commands.{command_text, IsPartition, IsInRange, IsLineOf, AsksFor}
-use Rattle.control_text.proofs.Texts.{head_or, partition-small, budget-small, not_returned}
+use Rattle.control_text.proofs.Texts.{head_or, partition-small, budget-small, not_returned, unlike}
 use Rattle.control_text.proofs.Numbers.{numbers_once}
 
 -- two numbers of one text
@@ -15,14 +15,18 @@ partition_once p q small less e = decimal_injective p q (omega (arith, small)) (
 
 -- the first letter of a command's text
 abbrev letter : Command → ℕ
+letter Help = 104
 letter Totals = 116
+letter Diverted = 100
 letter (Divert partition) = 100
 letter (Copy partition budget) = 99
 letter (Return partition) = 114
 letter Stop = 115
 
 first_letter : (command : Command) → head_or 0 (command_text command) ≡ letter command
+first_letter Help = refl
 first_letter Totals = refl
+first_letter Diverted = refl
 first_letter (Divert partition) = refl
 first_letter (Copy partition budget) = refl
 first_letter (Return partition) = refl
@@ -30,18 +34,38 @@ first_letter Stop = refl
 
 -- two commands of one first letter and one text
 same_letter : (a b : Command) → letter a ≡ letter b → IsInRange a → IsInRange b → command_text a ≡ command_text b → a ≡ b
+same_letter Help Help first small less e = refl
+same_letter Help Totals first small less e = absurd (omega arith)
+same_letter Help Diverted first small less e = absurd (omega arith)
+same_letter Help (Divert q) first small less e = absurd (omega arith)
+same_letter Help (Copy q c) first small less e = absurd (omega arith)
+same_letter Help (Return q) first small less e = absurd (omega arith)
+same_letter Help Stop first small less e = absurd (omega arith)
+same_letter Totals Help first small less e = absurd (omega arith)
 same_letter Totals Totals first small less e = refl
+same_letter Totals Diverted first small less e = absurd (omega arith)
 same_letter Totals (Divert q) first small less e = absurd (omega arith)
 same_letter Totals (Copy q c) first small less e = absurd (omega arith)
 same_letter Totals (Return q) first small less e = absurd (omega arith)
 same_letter Totals Stop first small less e = absurd (omega arith)
+same_letter Diverted Help first small less e = absurd (omega arith)
+same_letter Diverted Totals first small less e = absurd (omega arith)
+same_letter Diverted Diverted first small less e = refl
+same_letter Diverted (Divert q) first small less e = absurd (unlike 101 32 _ _ refl (append_cancel_left (codes "divert") (codes "ed") (32 ∷ decimal q) e))
+same_letter Diverted (Copy q c) first small less e = absurd (omega arith)
+same_letter Diverted (Return q) first small less e = absurd (omega arith)
+same_letter Diverted Stop first small less e = absurd (omega arith)
+same_letter (Divert p) Help first small less e = absurd (omega arith)
 same_letter (Divert p) Totals first small less e = absurd (omega arith)
+same_letter (Divert p) Diverted first small less e = absurd (unlike 32 101 _ _ refl (append_cancel_left (codes "divert") (32 ∷ decimal p) (codes "ed") e))
 same_letter (Divert p) (Divert q) first small less e =
     ap Divert (partition_once p q small less (append_cancel_left (codes "divert ") (decimal p) (decimal q) e))
 same_letter (Divert p) (Copy q c) first small less e = absurd (omega arith)
 same_letter (Divert p) (Return q) first small less e = absurd (omega arith)
 same_letter (Divert p) Stop first small less e = absurd (omega arith)
+same_letter (Copy p b) Help first small less e = absurd (omega arith)
 same_letter (Copy p b) Totals first small less e = absurd (omega arith)
+same_letter (Copy p b) Diverted first small less e = absurd (omega arith)
 same_letter (Copy p b) (Divert q) first small less e = absurd (omega arith)
 same_letter (Copy p b) (Copy q c) first small less e =
     let operands = append_cancel_left (codes "copy ") (decimal p ++ 32 ∷ decimal b) (decimal q ++ 32 ∷ decimal c) e in
@@ -49,13 +73,17 @@ same_letter (Copy p b) (Copy q c) first small less e =
     rw (once.0, once.1) refl
 same_letter (Copy p b) (Return q) first small less e = absurd (omega arith)
 same_letter (Copy p b) Stop first small less e = absurd (omega arith)
+same_letter (Return p) Help first small less e = absurd (omega arith)
 same_letter (Return p) Totals first small less e = absurd (omega arith)
+same_letter (Return p) Diverted first small less e = absurd (omega arith)
 same_letter (Return p) (Divert q) first small less e = absurd (omega arith)
 same_letter (Return p) (Copy q c) first small less e = absurd (omega arith)
 same_letter (Return p) (Return q) first small less e =
     ap Return (partition_once p q small less (append_cancel_left (codes "return ") (decimal p) (decimal q) e))
 same_letter (Return p) Stop first small less e = absurd (omega arith)
+same_letter Stop Help first small less e = absurd (omega arith)
 same_letter Stop Totals first small less e = absurd (omega arith)
+same_letter Stop Diverted first small less e = absurd (omega arith)
 same_letter Stop (Divert q) first small less e = absurd (omega arith)
 same_letter Stop (Copy q c) first small less e = absurd (omega arith)
 same_letter Stop (Return q) first small less e = absurd (omega arith)

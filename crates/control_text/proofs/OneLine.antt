@@ -7,13 +7,17 @@ use Rattle.std.proofs.lemmas.Fmt.{decimal_is_IsNumeral}
 use Rattle.std.proofs.lemmas.List.Folds.{list_all-append}
 use Rattle.std.proofs.lemmas.Str.Parse.{digit_from_value}
 use Rattle.control_text.specs.declared.command.Command.{Command}
-use Rattle.control_text.specs.declared.command.Command.TheVariants.{Totals, Divert, Copy, Return, Stop}
+use Rattle.control_text.specs.declared.command.Command.TheVariants.{Help, Totals, Diverted, Divert, Copy, Return, Stop}
 use Rattle.control_text.specs.declared.refusal.Refusal.{Refusal}
-use Rattle.control_text.specs.declared.refusal.Refusal.TheVariants.{BadCommand, NoPartition, AlreadyDiverted, NotDiverted, LeftOver, NoMemory, GateStopped}
+use Rattle.control_text.specs.declared.mistake.Word.{Word}
+use Rattle.control_text.specs.declared.mistake.Word.TheVariants as words
+use Rattle.control_text.specs.declared.mistake.Mistake.{Mistake}
+use Rattle.control_text.specs.declared.mistake.Mistake.TheVariants.{NoSuchCommand, BlankBehind, Operands}
+use Rattle.control_text.specs.declared.refusal.Refusal.TheVariants.{BadLine, LongLine, NoPartition, AlreadyDiverted, NotDiverted, LeftOver, NoMemory, GateStopped}
 use Rattle.control_text.specs.declared.answer.Answer.{Answer}
 use Rattle.control_text.specs.declared.answer.Answer.TheVariants.{Diverted, Copied, Returned, Refused}
 use Rattle.control_text.specs.Commands.{command_text, IsInRange}
-use Rattle.control_text.specs.Answers.{refusal_text, rest_word, answer_text, is_printable, IsOneLine, RefusalIsInRange, AnswerIsInRange}
+use Rattle.control_text.specs.Answers.{usage_text, mistake_text, refusal_text, rest_word, answer_text, is_printable, IsOneLine, RefusalIsInRange, AnswerIsInRange}
 
 -- digits are printable
 digit_printable : (c : ℕ) → digit_value c < 10 → is_printable c ≡ true
@@ -41,7 +45,9 @@ about : (words : List ℕ) (partition : ℕ) (what : List ℕ) → IsOneLine wor
 about words partition what is then small = both (words ++ decimal partition) what (numbered words partition is small) then
 
 pub command_line : (command : Command) → IsInRange command → IsOneLine (command_text command)
+command_line Help is = refl
 command_line Totals is = refl
+command_line Diverted is = refl
 command_line (Divert partition) is = numbered (codes "divert ") partition refl is
 command_line (Copy partition budget) is =
     let many = is.1.1 in
@@ -49,8 +55,23 @@ command_line (Copy partition budget) is =
 command_line (Return partition) is = numbered (codes "return ") partition refl is
 command_line Stop is = refl
 
+usage_line : (word : Word) → IsOneLine (usage_text word)
+usage_line words.Help = refl
+usage_line words.Totals = refl
+usage_line words.Diverted = refl
+usage_line words.Divert = refl
+usage_line words.Copy = refl
+usage_line words.Return = refl
+usage_line words.Stop = refl
+
+mistake_line : (mistake : Mistake) → IsOneLine (mistake_text mistake)
+mistake_line NoSuchCommand = refl
+mistake_line BlankBehind = refl
+mistake_line (Operands word) = usage_line word
+
 refusal_line : (refusal : Refusal) → RefusalIsInRange refusal → IsOneLine (refusal_text refusal)
-refusal_line BadCommand is = refl
+refusal_line (BadLine mistake) is = both (codes "refused: ") (mistake_text mistake) refl (mistake_line mistake)
+refusal_line LongLine is = refl
 refusal_line (NoPartition partition) is = numbered (codes "refused: there is no partition ") partition refl is
 refusal_line (AlreadyDiverted partition) is = about (codes "refused: partition ") partition (codes " is diverted already") refl refl is
 refusal_line (NotDiverted partition) is = about (codes "refused: partition ") partition (codes " isn't diverted") refl refl is

@@ -6,7 +6,7 @@ use Rattle.std.proofs.lemmas.Bool.{and_parts}
 use Rattle.std.proofs.lemmas.List.{append_cancel_left, append_cancel_right}
 use Rattle.std.proofs.lemmas.List.Folds.{list_all-append}
 use Rattle.control_text.specs.declared.command.Command.{Command}
-use Rattle.control_text.specs.declared.command.Command.TheVariants.{Totals, Divert, Copy, Return, Stop}
+use Rattle.control_text.specs.declared.command.Command.TheVariants.{Help, Totals, Diverted, Divert, Copy, Return, Stop}
 use Rattle.control_text.specs.Answers.{is_printable, IsOneLine}
 use Rattle.control_text.specs.Commands.{command_text, IsPartition, IsBudget, IsInRange, IsLineOf, ReadsCommand}
 use Rattle.control_text.specs.Reading.{ReadsText, ReadsBehind}
@@ -48,7 +48,7 @@ returned_read line text None whole reads = λ command asks. by command asks.in_r
         reads command (record { whole = append_cancel_right text (command_text command) (13 ∷ []) (sym whole ∙ e); in_range = is })
 
 -- a text that begins otherwise than a command's is not its
-unlike : (x y : ℕ) (xs ys : List ℕ) → (x == y) ≡ false → x ∷ xs ≢ y ∷ ys
+pub unlike : (x y : ℕ) (xs ys : List ℕ) → (x == y) ≡ false → x ∷ xs ≢ y ∷ ys
 unlike x y xs ys other e =
     let same : x ≡ y = ap (head_or 0) e in
     grind (arith)
@@ -60,7 +60,9 @@ pub copy_refused : (operands : List ℕ)
 copy_refused operands none = λ command is. by command is.in_range is.whole
   where
     by : (command : Command) → IsInRange command → codes "copy " ++ operands ≢ command_text command
+    by Help is e = unlike 99 104 _ _ refl e
     by Totals is e = unlike 99 116 _ _ refl e
+    by Diverted is e = unlike 99 100 _ _ refl e
     by (Divert partition) is e = unlike 99 100 _ _ refl e
     by (Copy partition budget) is e =
         none partition budget is.0 is.1 (append_cancel_left (codes "copy ") operands (decimal partition ++ 32 ∷ decimal budget) e)

@@ -2,13 +2,34 @@
 use Rattle.std.specs.Prelude.{ℕ, List, ◌++◌, Bool, true, false, nat_le, ◌&&◌, ◌<◌, ◌^◌, ⊤, IsTrue, codes, decimal}
 use Rattle.std.specs.List.{list_all}
 use Rattle.control_text.specs.declared.refusal.Refusal.{Refusal}
-use Rattle.control_text.specs.declared.refusal.Refusal.TheVariants.{BadCommand, NoPartition, AlreadyDiverted, NotDiverted, LeftOver, NoMemory, GateStopped}
+use Rattle.control_text.specs.declared.mistake.Word.{Word}
+use Rattle.control_text.specs.declared.mistake.Word.TheVariants as words
+use Rattle.control_text.specs.declared.mistake.Mistake.{Mistake}
+use Rattle.control_text.specs.declared.mistake.Mistake.TheVariants.{NoSuchCommand, BlankBehind, Operands}
+use Rattle.control_text.specs.declared.refusal.Refusal.TheVariants.{BadLine, LongLine, NoPartition, AlreadyDiverted, NotDiverted, LeftOver, NoMemory, GateStopped}
 use Rattle.control_text.specs.declared.answer.Answer.{Answer}
 use Rattle.control_text.specs.declared.answer.Answer.TheVariants.{Diverted, Copied, Returned, Refused}
 
+-- what a word takes
+abbrev pub usage_text : Word → List ℕ
+usage_text words.Help = codes "help takes no number"
+usage_text words.Totals = codes "totals takes no number"
+usage_text words.Diverted = codes "diverted takes no number"
+usage_text words.Divert = codes "divert takes one number, a partition's, from 0 to 65535, as in: divert 3"
+usage_text words.Copy = codes "copy takes two numbers, a partition's and how many keys, from 1 to 4294967295, as in: copy 3 100"
+usage_text words.Return = codes "return takes one number, a partition's, from 0 to 65535, as in: return 3"
+usage_text words.Stop = codes "stop takes no number"
+
+-- a mistake in words
+abbrev pub mistake_text : Mistake → List ℕ
+mistake_text NoSuchCommand = codes "no such command; help lists them"
+mistake_text BlankBehind = codes "a blank stands behind the last word"
+mistake_text (Operands word) = usage_text word
+
 -- a refusal in words
 abbrev pub refusal_text : Refusal → List ℕ
-refusal_text BadCommand = codes "refused: no such command"
+refusal_text (BadLine mistake) = codes "refused: " ++ mistake_text mistake
+refusal_text LongLine = codes "refused: the line has more than 64 bytes"
 refusal_text (NoPartition partition) = codes "refused: there is no partition " ++ decimal partition
 refusal_text (AlreadyDiverted partition) = codes "refused: partition " ++ decimal partition ++ codes " is diverted already"
 refusal_text (NotDiverted partition) = codes "refused: partition " ++ decimal partition ++ codes " isn't diverted"
@@ -37,6 +58,10 @@ refusal_line refusal = refusal_text refusal ++ codes "\n"
 abbrev pub answer_line : Answer → List ℕ
 answer_line answer = answer_text answer ++ codes "\n"
 
+-- the lines of the answer to `help`
+abbrev pub help_lines : List ℕ
+help_lines = codes "help           lists the commands\ntotals         what was done so far, and how much is stored\ndiverted       which partitions are diverted\ndivert 3       calls of partition 3 go to a fallback from now on\ncopy 3 100     at most 100 keys of partition 3 are copied back from its fallback\nreturn 3       calls of partition 3 go to its primary again, once all keys are copied\nstop           the node ends in order\n"
+
 -- printable ASCII is from a space (20) to a tilde (7e)
 abbrev pub is_printable : ℕ → Bool
 is_printable byte = nat_le 32 byte && nat_le byte 126
@@ -47,7 +72,8 @@ IsOneLine text = IsTrue (list_all is_printable text)
 
 -- the numbers of a refusal are in their ranges
 abbrev pub RefusalIsInRange : Refusal → Type 0
-RefusalIsInRange BadCommand = ⊤
+RefusalIsInRange (BadLine mistake) = ⊤
+RefusalIsInRange LongLine = ⊤
 RefusalIsInRange (NoPartition partition) = partition < 2 ^ 16
 RefusalIsInRange (AlreadyDiverted partition) = partition < 2 ^ 16
 RefusalIsInRange (NotDiverted partition) = partition < 2 ^ 16

@@ -1,11 +1,13 @@
 -- Which line asks for which command.
 use Rattle.std.specs.Prelude.{⊤, ◌≡◌, ℕ, ◌<◌, ◌≤◌, ◌^◌, ◌⊎◌, List, [], ◌∷◌, ◌++◌, Option, Some, None, codes, decimal}
 use Rattle.control_text.specs.declared.command.Command.{Command}
-use Rattle.control_text.specs.declared.command.Command.TheVariants.{Totals, Divert, Copy, Return, Stop}
+use Rattle.control_text.specs.declared.command.Command.TheVariants.{Help, Totals, Diverted, Divert, Copy, Return, Stop}
 
 -- a command's text
 abbrev pub command_text : Command → List ℕ
+command_text Help = codes "help"
 command_text Totals = codes "totals"
+command_text Diverted = codes "diverted"
 command_text (Divert partition) = codes "divert " ++ decimal partition
 command_text (Copy partition budget) = codes "copy " ++ decimal partition ++ 32 ∷ decimal budget
 command_text (Return partition) = codes "return " ++ decimal partition
@@ -21,7 +23,9 @@ IsBudget budget = (1 ≤ budget) × (budget < 2 ^ 32)
 
 -- the numbers of a command are in their ranges
 abbrev pub IsInRange : Command → Type 0
+IsInRange Help = ⊤
 IsInRange Totals = ⊤
+IsInRange Diverted = ⊤
 IsInRange (Divert partition) = IsPartition partition
 IsInRange (Copy partition budget) = IsPartition partition × IsBudget budget
 IsInRange (Return partition) = IsPartition partition

@@ -1,3 +1,5 @@
 pub mod Commands
 pub mod Answers
 pub mod Reading
+pub mod Mistakes
+pub mod Diverted

@@ -30,4 +30,4 @@ ReadsBehind word operands result = ReadsText (word ++ operands) result
 -- the same of the commands without a number
 abbrev pub NamesAlone : List ℕ → Option Command → Type 0
 NamesAlone text (Some command) = (command_text command ≡ text) × IsInRange command
-NamesAlone text None = (codes "totals" ≢ text) × (codes "stop" ≢ text)
+NamesAlone text None = (codes "help" ≢ text) × (codes "totals" ≢ text) × (codes "diverted" ≢ text) × (codes "stop" ≢ text)

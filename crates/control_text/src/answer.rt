@@ -2,11 +2,22 @@
 
 ghost use Rattle.std.specs.Prelude.{◌≡◌, OnOk};
 ghost use Rattle.std.specs.Io.KnownBytes.{Appends};
-ghost use Rattle.control_text.specs.Answers.{answer_line, answer_text, rest_word};
+ghost use Rattle.control_text.specs.Answers.{answer_line, answer_text, help_lines, rest_word};
 
 use crate::refusal::Refusal;
 use std::io;
 use std::io::Write;
+
+/// The lines of the answer to `help`.
+const HELP: &[u8] = b"\
+help           lists the commands
+totals         what was done so far, and how much is stored
+diverted       which partitions are diverted
+divert 3       calls of partition 3 go to a fallback from now on
+copy 3 100     at most 100 keys of partition 3 are copied back from its fallback
+return 3       calls of partition 3 go to its primary again, once all keys are copied
+stop           the node ends in order
+";
 
 /// What is answered to a command that names a partition, or to a line that asks for none. The answer to `totals` is the line of the totals,
 /// and to `stop` nothing is answered.
@@ -27,6 +38,15 @@ pub enum Answer {
     Returned(u16),
     /// The command wasn't done: `refused: ` and why.
     Refused(Refusal),
+}
+
+/// Writes the lines of the answer to `help`, each with its line feed: the commands, and what each does. On an error of the writer a part of
+/// them may have been written. It takes no memory of its own.
+pub fn write_help<W: Write>(writer: &mut W) -> io::Result<()>
+    ensures lines { OnOk result
+        (Appends (W.contents writer.old) (W.contents writer.new) help_lines) }
+{
+    writer.write_all(HELP)
 }
 
 /// The word for whether keys are left to be copied.

@@ -3,8 +3,12 @@
 /// What an operator asks a serving node for.
 #[derive(Clone, Copy, Drop, PartialEq, Eq)]
 pub enum Command {
+    /// What the commands are: `help`.
+    Help,
     /// How many commands were served, and how much is stored: `totals`.
     Totals,
+    /// Which partitions are diverted: `diverted`.
+    Diverted,
     /// That the partition of this index, from 0, is diverted to a fallback: `divert P`.
     Divert(u16),
     /// That keys are copied back from the fallback of a partition: `copy P B`.

@@ -2,29 +2,36 @@
 //!
 //! What it means: which lines ask for which command is defined in `specs/Commands` (`AsksFor`), and [`read_command`] reads a line as the
 //! command that it asks for. A line asks for one command ([`a_text_asks_for_one_command`]). The line of an [`Answer`], and of a [`Refusal`],
-//! is defined in `specs/Answers`; each writes its own. It is one line of printable ASCII ([`an_answer_is_one_line`]).
+//! is defined in `specs/Answers`; each writes its own. What is wrong with a line that asks for none is defined in `specs/Mistakes`
+//! (`IsMistakeIn`), and [`mistake_in`] says it. An answer is one line of printable ASCII ([`an_answer_is_one_line`]).
 //!
 //! What it costs: nothing here takes memory. A line is read in a few passes over it.
 //!
 //! ```text
+//! help                what the commands are
 //! totals              how many commands were served, and how much is stored
+//! diverted            which partitions are diverted
 //! divert 3            partition 3 is diverted to a fallback          diverted 3
 //! copy 3 100          at most 100 of its keys are copied back        copied 3 keys 100 left
 //! return 3            partition 3 goes back to its primary           returned 3
 //! stop                the node stops
-//! dump                                                               refused: no such command
+//! dump                                                               refused: no such command; help lists them
 //! ```
 #![tactic(auto)]
 
 mod answer;
 mod command;
+mod diverted;
 mod laws;
+mod mistake;
 mod number;
 mod reading;
 mod refusal;
 
-pub use answer::Answer;
+pub use answer::{Answer, write_help};
 pub use command::Command;
+pub use diverted::DivertedPartitions;
 pub use laws::{a_text_asks_for_one_command, an_answer_is_one_line};
+pub use mistake::{Mistake, Word, mistake_in};
 pub use reading::read_command;
 pub use refusal::Refusal;

@@ -12,7 +12,9 @@ fn read_alone(text: &[u8]) -> Option<Command>
     ensures { NamesAlone text.now result }
 {
     match text {
+        b"help" => Some(Command::Help),
         b"totals" => Some(Command::Totals),
+        b"diverted" => Some(Command::Diverted),
         b"stop" => Some(Command::Stop),
         _ => None,
     }
@@ -76,7 +78,7 @@ fn read_text(text: &[u8]) -> Option<Command>
 /// The command that a line asks for; none where it asks for none. The line comes without its line feed, and may end in one carriage
 /// return (byte 0d), which doesn't count.
 ///
-/// A command is `totals`, `divert P`, `copy P B`, `return P` or `stop`, in lower case, with one space (byte 20) between two words and no
+/// A command is `help`, `totals`, `diverted`, `divert P`, `copy P B`, `return P` or `stop`, in lower case, with one space (byte 20) between two words and no
 /// other blank. P is a partition's index from 0 to 65,535, B a number of keys from 1 to 4,294,967,295, each in decimal without sign or
 /// leading zeros. That there is such a partition isn't asked here.
 pub fn read_command(line: &[u8]) -> Option<Command>

@@ -4,14 +4,17 @@ ghost use Rattle.std.specs.Prelude.{◌++◌, OnOk, codes, decimal};
 ghost use Rattle.std.specs.Io.KnownBytes.{Appends};
 ghost use Rattle.control_text.specs.Answers.{refusal_line};
 
+use crate::mistake::Mistake;
 use std::io;
 use std::io::Write;
 
 /// Why a command wasn't done. A number is the index of the partition that the command named.
 #[derive(Clone, Copy, Drop, PartialEq, Eq)]
 pub enum Refusal {
-    /// The line asks for no command: `refused: no such command`.
-    BadCommand,
+    /// The line asks for no command: `refused: ` and what is wrong with it, as in `refused: no such command; help lists them`.
+    BadLine(Mistake),
+    /// The line is longer than any command: `refused: the line has more than 64 bytes`.
+    LongLine,
     /// The node has no partition of this index: `refused: there is no partition 9`.
     NoPartition(u16),
     /// A diversion of a partition that is diverted: `refused: partition 3 is diverted already`.
@@ -42,7 +45,11 @@ impl Refusal {
             (Appends (W.contents writer.old) (W.contents writer.new) (refusal_line self)) }
     {
         match self {
-            Refusal::BadCommand => writeln!(writer, "refused: no such command"),
+            Refusal::BadLine(mistake) => {
+                let what = mistake.text();
+                writeln!(writer, "refused: {what}")
+            }
+            Refusal::LongLine => writeln!(writer, "refused: the line has more than 64 bytes"),
             Refusal::NoPartition(index) => {
                 writeln!(writer, "refused: there is no partition {index}")
             }

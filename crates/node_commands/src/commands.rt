@@ -10,6 +10,7 @@ use control_text::{Answer, Command, Refusal};
 use gate_node::Shared;
 use handoff::{Handoff, HandoffFault};
 use handoff_tracks::HandoffTracks;
+use log::{Log, info};
 use socket_streams::Stop;
 use std::alloc::Global;
 use std::io::{Read, Write};
@@ -111,16 +112,16 @@ fn wait_for_workers<X: Clock + Wait>(rt: &X, stop: &Stop, has_ended: &AtomicBool
 
 impl<C: Read + Write> Console<C> {
     /// Has the workers paused for this, and returns it; refuses it where too little memory is kept back by which they could be started again.
-    fn pause_for(&mut self, stop: &Stop, asked: Asked) -> Option<Asked> {
+    fn pause_for<L: Log>(&mut self, rt: &L, stop: &Stop, asked: Asked) -> Option<Asked> {
         if stop.pause_if_kept() {
             return Some(asked);
         }
-        self.answer(Answer::Refused(Refusal::NoMemory));
+        self.answer(rt, Answer::Refused(Refusal::NoMemory));
         None
     }
 
     /// Does a command on a partition that there is: one that needs no pause.
-    fn obey_at<X: Wait>(
+    fn obey_at<X: Log + Wait>(
         &mut self,
         rt: &X,
         alloc: Global,
@@ -135,20 +136,22 @@ impl<C: Read + Write> Console<C> {
         ensures tracks { HaveTracks (handoff_of shared.now) tracks.new }
     {
         match command {
-            Command::Divert(_) => return self.pause_for(stop, Asked::Divert(partition)),
+            Command::Divert(_) => return self.pause_for(rt, stop, Asked::Divert(partition)),
             Command::Copy { budget, .. } => {
-                self.answer(copy(rt, alloc, shared.handoff(), tracks, partition, budget));
+                let answer = copy(rt, alloc, shared.handoff(), tracks, partition, budget);
+                self.answer(rt, answer);
             }
             Command::Return(_) => {
-                self.answer(finish_return(rt, alloc, shared.handoff(), tracks, partition));
+                let answer = finish_return(rt, alloc, shared.handoff(), tracks, partition);
+                self.answer(rt, answer);
             }
-            Command::Totals | Command::Stop => {}
+            Command::Help | Command::Totals | Command::Diverted | Command::Stop => {}
         }
         None
     }
 
     /// Does a command; where the workers are to be paused or stopped for it, says so to them, and returns what for.
-    fn obey<X: Wait>(
+    fn obey<X: Log + Wait>(
         &mut self,
         rt: &X,
         alloc: Global,
@@ -161,8 +164,17 @@ impl<C: Read + Write> Console<C> {
         ensures { HaveTracks (handoff_of shared.now) tracks.new }
     {
         let partition = match command {
-            Command::Totals => return self.pause_for(stop, Asked::Totals),
+            Command::Help => {
+                self.tell_help();
+                return None;
+            }
+            Command::Totals => return self.pause_for(rt, stop, Asked::Totals),
+            Command::Diverted => {
+                self.tell_diverted();
+                return None;
+            }
             Command::Stop => {
+                info!(rt; "the operator stops the node");
                 stop.raise();
                 return Some(Asked::Stop);
             }
@@ -172,12 +184,12 @@ impl<C: Read + Write> Console<C> {
         if has_partition(shared, partition) {
             return self.obey_at(rt, alloc, shared, stop, tracks, command, partition);
         }
-        self.answer(Answer::Refused(Refusal::NoPartition(partition)));
+        self.answer(rt, Answer::Refused(Refusal::NoPartition(partition)));
         None
     }
 
-    /// Does what the line that has come asks for, or answers that it asks for nothing.
-    fn heed_line<X: Wait>(
+    /// Does what the line that has come asks for, or answers what is wrong with it.
+    fn heed_line<X: Log + Wait>(
         &mut self,
         rt: &X,
         alloc: Global,
@@ -189,9 +201,9 @@ impl<C: Read + Write> Console<C> {
         ensures { HaveTracks (handoff_of shared.now) tracks.new }
     {
         match self.take_command() {
-            Some(command) => self.obey(rt, alloc, shared, stop, tracks, command),
-            None => {
-                self.answer(Answer::Refused(Refusal::BadCommand));
+            Ok(command) => self.obey(rt, alloc, shared, stop, tracks, command),
+            Err(refusal) => {
+                self.answer(rt, Answer::Refused(refusal));
                 None
             }
         }
@@ -199,7 +211,7 @@ impl<C: Read + Write> Console<C> {
 
     /// Waits until the workers have what they keep for themselves, tells what was kept, and does what the lines that come ask for, until one needs a pause or stops the node, the input ends, which stops it, or
     /// serving has ended. A line without its line feed is none.
-    pub(crate) fn hear<X: Clock + Wait>(
+    pub(crate) fn hear<X: Clock + Log + Wait>(
         &mut self,
         rt: &X,
         alloc: Global,
@@ -217,6 +229,7 @@ impl<C: Read + Write> Console<C> {
             match self.read_line(rt, has_ended) {
                 Heard::Over => return Asked::Nothing,
                 Heard::End => {
+                    info!(rt; "the end of the operator's input stops the node");
                     stop.raise();
                     return Asked::Stop;
                 }

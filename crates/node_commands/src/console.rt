@@ -4,9 +4,12 @@ ghost use Rattle.std.specs.Prelude.{IfSome};
 ghost use Rattle.node_commands.specs.Console.{IsStored};
 
 use crate::lines::write_open_totals;
-use control_text::{Answer, Command, read_command};
+use control_text::{
+    Answer, Command, DivertedPartitions, Refusal, mistake_in, read_command, write_help,
+};
 use handoff::Handoff;
 use key_counts::{KeyCounts, count_partitions, total_of};
+use log::{Log, info, warn};
 use stats_book::Totals;
 use std::alloc::Global;
 use std::io::{ErrorKind, Read, Write};
@@ -16,7 +19,7 @@ use std::sync::atomic::{AtomicBool, Ordering};
 use std::thread;
 use std::time::Duration;
 
-/// How many bytes of a line are kept: more than a command has.
+/// How many bytes of a line are kept: more than a command has. The refusal of a longer one names this number.
 const MAX_LINE: usize = 64;
 
 /// The pause, in milliseconds, before a channel is read again that had nothing yet.
@@ -52,6 +55,27 @@ fn count_stored<X: Wait>(rt: &X, alloc: Global, handoff: &Handoff) -> Option<Key
     }
 }
 
+/// Tells the log what was done to a partition; of what was refused, nothing.
+fn log_answer<L: Log>(rt: &L, answer: Answer) {
+    match answer {
+        Answer::Diverted(partition) => info!(rt; "partition {partition} is diverted"),
+        Answer::Copied {
+            partition,
+            keys,
+            left,
+        } => {
+            let rest = if left {
+                "some are left"
+            } else {
+                "none is left"
+            };
+            info!(rt; "{keys} keys of partition {partition} were copied back, {rest}");
+        }
+        Answer::Returned(partition) => info!(rt; "partition {partition} has returned"),
+        Answer::Refused(_) => {}
+    }
+}
+
 /// The channel to an operator, and the line that has come over it so far.
 #[derive(Drop)]
 pub(crate) struct Console<C> {
@@ -61,6 +85,8 @@ pub(crate) struct Console<C> {
     length: usize,
     /// What is told once the workers go on, so that they don't wait for an operator who doesn't read.
     kept: Option<Told>,
+    /// Which partitions are diverted by now.
+    diverted: DivertedPartitions,
 }
 
 impl<C: Read + Write> Console<C> {
@@ -71,6 +97,7 @@ impl<C: Read + Write> Console<C> {
             line: [0; MAX_LINE],
             length: 0,
             kept: None,
+            diverted: DivertedPartitions::none(),
         }
     }
 
@@ -80,9 +107,9 @@ impl<C: Read + Write> Console<C> {
     }
 
     /// Tells what was kept, if anything was, as far as that can be written: beside totals how much is stored by now.
-    pub(crate) fn tell_kept<X: Wait>(&mut self, rt: &X, alloc: Global, handoff: &Handoff) {
+    pub(crate) fn tell_kept<X: Log + Wait>(&mut self, rt: &X, alloc: Global, handoff: &Handoff) {
         match self.kept {
-            Some(Told::Answer(answer)) => self.answer(answer),
+            Some(Told::Answer(answer)) => self.answer(rt, answer),
             Some(Told::Totals(totals, connections)) => {
                 self.tell_totals(totals, connections, count_stored(rt, alloc, handoff));
             }
@@ -91,10 +118,34 @@ impl<C: Read + Write> Console<C> {
         self.kept = None;
     }
 
-    /// Answers, as far as that can be written.
-    pub(crate) fn answer(&mut self, answer: Answer) {
+    /// Answers, as far as that can be written; keeps, and tells the log, what was done to a partition.
+    pub(crate) fn answer<L: Log>(&mut self, rt: &L, answer: Answer) {
+        self.diverted.note(answer);
+        log_answer(rt, answer);
         if answer.write_line(&mut self.operator).is_ok() {
             let _unheard = self.operator.flush();
+        }
+    }
+
+    /// Tells the commands, as far as that can be written.
+    pub(crate) fn tell_help(&mut self) {
+        if write_help(&mut self.operator).is_ok() {
+            let _unheard = self.operator.flush();
+        }
+    }
+
+    /// Tells which partitions are diverted, as far as that can be written.
+    pub(crate) fn tell_diverted(&mut self) {
+        if self.diverted.write_line(&mut self.operator).is_ok() {
+            let _unheard = self.operator.flush();
+        }
+    }
+
+    /// Tells the log how many partitions are diverted still, where there are such.
+    pub(crate) fn log_diverted<L: Log>(&self, rt: &L) {
+        let count = self.diverted.count();
+        if count > 0 {
+            warn!(rt; "{count} partitions are diverted still");
         }
     }
 
@@ -117,8 +168,12 @@ impl<C: Read + Write> Console<C> {
         false
     }
 
-    /// Reads on to the end of a line. Where who wrote has gone, what has come of the line is dropped.
-    pub(crate) fn read_line<X: Clock + Wait>(&mut self, rt: &X, has_ended: &AtomicBool) -> Heard {
+    /// Reads on to the end of a line. Where another operator has come, what has come of the line is dropped, and the log has a line.
+    pub(crate) fn read_line<X: Clock + Log + Wait>(
+        &mut self,
+        rt: &X,
+        has_ended: &AtomicBool,
+    ) -> Heard {
         let mut byte = [0u8; 1];
         for _ in rt.forever() {
             if has_ended.load(Ordering::SeqCst) {
@@ -133,7 +188,10 @@ impl<C: Read + Write> Console<C> {
                 }
                 Err(error) => match error.kind() {
                     ErrorKind::Interrupted => {}
-                    ErrorKind::ConnectionReset => self.length = 0,
+                    ErrorKind::ConnectionReset => {
+                        info!(rt; "an operator has connected");
+                        self.length = 0;
+                    }
                     ErrorKind::WouldBlock => thread::sleep(rt, Duration::from_millis(PAUSE_MILLIS)),
                     _ => return Heard::End,
                 },
@@ -142,13 +200,16 @@ impl<C: Read + Write> Console<C> {
         unreachable!()
     }
 
-    /// What the line that has come asks for, and begins a new one.
-    pub(crate) fn take_command(&mut self) -> Option<Command> {
+    /// What the line that has come asks for, or what is wrong with it, and begins a new one.
+    pub(crate) fn take_command(&mut self) -> Result<Command, Refusal> {
         let length = self.length;
         self.length = 0;
-        match self.line.get(..length) {
-            Some(line) => read_command(line),
-            None => None,
+        let Some(line) = self.line.get(..length) else {
+            return Err(Refusal::LongLine);
+        };
+        match read_command(line) {
+            Some(command) => Ok(command),
+            None => Err(Refusal::BadLine(mistake_in(line))),
         }
     }
 }

@@ -160,6 +160,7 @@ where
             mut hearing,
         } = serve_on(rt, alloc, listener, paused, settings, console, tracks)?;
         if is_end(hearing.asked) {
+            hearing.console.log_diverted(rt);
             return Ok((left, hearing.tracks));
         }
         paused = heed(alloc, left, settings, &mut hearing);
@@ -214,6 +215,8 @@ fn conclude<X: Wait>(
 /// It writes `listening ADDRESS` before the first connection is accepted, and the totals at the end. Over the operator's channel it reads lines, and writes one
 /// for each:
 ///
+/// - `help`: the commands, each with what it does, in several lines.
+/// - `diverted`: which partitions are diverted now.
 /// - `totals`: what all sessions have counted, and how many connections were accepted, at one moment. For that the workers are paused. And how many keys,
 ///   siblings, dead keys and bytes of values are stored, counted behind the pause, while calls go on, each partition at a moment of its own; nothing of that
 ///   where memory is refused to the count.
@@ -223,7 +226,7 @@ fn conclude<X: Wait>(
 /// - `return P`: its calls are for the primary again, where all keys are copied as they are then, while calls go on.
 /// - `stop`, or the end of the channel's input: all connections are ended, and then the call returns.
 ///
-/// A line that asks for none of these, or is longer than 64 bytes, is refused. One without its line feed isn't obeyed. A line that can't be written is passed over,
+/// A line that asks for none of these, or is longer than 64 bytes, is refused, with what is wrong with it. One without its line feed isn't obeyed. A line that can't be written is passed over,
 /// and one that nobody reads holds up the operator alone. It returns too once as many connections were accepted as are to be and all of them have ended.
 ///
 /// A read of the channel that fails with `ConnectionReset` means that who wrote has gone, and another operator may come over the same channel: what has come of a

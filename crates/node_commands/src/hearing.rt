@@ -7,6 +7,7 @@ use crate::commands::Asked;
 use crate::console::Console;
 use gate_node::Shared;
 use handoff_tracks::HandoffTracks;
+use log::Log;
 use socket_streams::Stop;
 use std::alloc::Global;
 use std::io::{Read, Write};
@@ -50,7 +51,7 @@ pub(crate) fn hear<X, C>(
     has_ended: &AtomicBool,
 ) -> Hearing<C>
 where
-    X: Clock + Wait,
+    X: Clock + Log + Wait,
     C: Read + Write,
     requires { HaveTracks (handoff_of shared.now) tracks }
     ensures { HaveTracks (handoff_of shared.now) result.tracks }

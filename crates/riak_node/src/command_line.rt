@@ -19,7 +19,7 @@ fn pipe<'a>(alloc: Global) -> Result<clap::Command<'a>, AllocError> {
              error, as in: riak_node: bad frame after 2 replies; 2 for a command line that isn't one of these.\n\n\
              Example: riak_node pipe --ring 64 --run 2 < requests > replies",
         )
-        .arg(options::ring(alloc, "1"))?
+        .arg(options::ring(alloc))?
         .arg(options::run(alloc))?
         .arg(options::sweep(alloc))
 }
@@ -34,11 +34,12 @@ fn bare_serve<'a>(alloc: Global) -> clap::Command<'a> {
             "Writes two lines to standard output: the address, as in: listening 127.0.0.1:8087, before the first\n\
              connection, and what was done, as in: gets 2 puts 2 deletes 0 refusals 0 reaps 0, where it ends in order. The\n\
              log of the connections goes to standard error.\n\n\
-             With --control each line of standard input is a command, and is answered by one line between these two:\n\
-             totals, what was done so far, how many connections came, and how much is stored; divert P, calls of\n\
-             partition P, from 0, go to a fallback; copy P B, at most B of its keys are copied back, and whether some are\n\
-             left; return P, it is at its primary again; stop, serving ends in order. What can't be done is answered by\n\
-             why, as in: refused: no such command.\n\n\
+             With --control each line of standard input is a command, and is answered between these two, by one line but\n\
+             for help: help, the commands, one a line; totals, what was done so far, how many connections came, and how\n\
+             much is stored; diverted, which partitions are diverted; divert P, calls of partition P, from 0, go to a\n\
+             fallback; copy P B, at most B of its keys are copied back, and whether some are left; return P, it is at its\n\
+             primary again; stop, serving ends in order. What can't be done is answered by why, as in:\n\
+             refused: there is no partition 64.\n\n\
              With --control-port an operator writes these lines to that port and reads the answers there. A further one is told\n\
              that another is connected, and closed. The address is a line before the other two, as in: control 127.0.0.1:8088.\n\n\
              Exit status: 0 at the end of standard input with --until-eof or --control, at stop, and when all connections\n\
@@ -61,7 +62,7 @@ fn serve<'a>(alloc: Global) -> Result<clap::Command<'a>, AllocError> {
         .arg(options::log(alloc))?
         .arg(options::connections(alloc))?
         .arg(options::workers(alloc))?
-        .arg(options::ring(alloc, "64"))?
+        .arg(options::shared_ring(alloc))?
         .arg(options::run(alloc))?
         .arg(options::sweep(alloc))
 }
@@ -82,7 +83,7 @@ fn steps<'a>(alloc: Global) -> Result<clap::Command<'a>, AllocError> {
              Example: riak_node steps --workers 3 < schedule",
         )
         .arg(options::step_workers(alloc))?
-        .arg(options::ring(alloc, "1"))?
+        .arg(options::ring(alloc))?
         .arg(options::run(alloc))
 }
 

@@ -144,14 +144,26 @@ pub(crate) fn step_workers<'a>(alloc: Global) -> Arg<'a> {
     )
 }
 
-/// The number of partitions.
-pub(crate) fn ring<'a>(alloc: Global, default: &'a str) -> Arg<'a> {
+/// The number of partitions of a node that one thread serves.
+pub(crate) fn ring<'a>(alloc: Global) -> Arg<'a> {
     number(
         alloc,
         "ring",
         "Q",
         value_parser!(u16),
-        default,
+        "1",
+        "How many partitions share the keys, each with a vnode of its own: a power of two from 1 to 1024",
+    )
+}
+
+/// The number of partitions of a node that several threads serve.
+pub(crate) fn shared_ring<'a>(alloc: Global) -> Arg<'a> {
+    number(
+        alloc,
+        "ring",
+        "Q",
+        value_parser!(u16),
+        "64",
         "How many partitions share the keys, each with a vnode of its own: a power of two from 1 to 1024. More of them let more threads write at once",
     )
 }

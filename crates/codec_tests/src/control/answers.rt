@@ -1,6 +1,6 @@
 //! The lines of the answers and of the refusals.
 
-use control_text::{Answer, Refusal};
+use control_text::{Answer, DivertedPartitions, Mistake, Refusal, Word, write_help};
 use std::io::Cursor;
 
 /// An answer, and its line.
@@ -64,8 +64,44 @@ struct Refusing {
 
 const REFUSALS: &[Refusing] = &[
     Refusing {
-        refusal: Refusal::BadCommand,
-        line: "refused: no such command\n",
+        refusal: Refusal::BadLine(Mistake::NoSuchCommand),
+        line: "refused: no such command; help lists them\n",
+    },
+    Refusing {
+        refusal: Refusal::BadLine(Mistake::BlankBehind),
+        line: "refused: a blank stands behind the last word\n",
+    },
+    Refusing {
+        refusal: Refusal::BadLine(Mistake::Operands(Word::Help)),
+        line: "refused: help takes no number\n",
+    },
+    Refusing {
+        refusal: Refusal::BadLine(Mistake::Operands(Word::Totals)),
+        line: "refused: totals takes no number\n",
+    },
+    Refusing {
+        refusal: Refusal::BadLine(Mistake::Operands(Word::Diverted)),
+        line: "refused: diverted takes no number\n",
+    },
+    Refusing {
+        refusal: Refusal::BadLine(Mistake::Operands(Word::Stop)),
+        line: "refused: stop takes no number\n",
+    },
+    Refusing {
+        refusal: Refusal::BadLine(Mistake::Operands(Word::Divert)),
+        line: "refused: divert takes one number, a partition's, from 0 to 65535, as in: divert 3\n",
+    },
+    Refusing {
+        refusal: Refusal::BadLine(Mistake::Operands(Word::Copy)),
+        line: "refused: copy takes two numbers, a partition's and how many keys, from 1 to 4294967295, as in: copy 3 100\n",
+    },
+    Refusing {
+        refusal: Refusal::BadLine(Mistake::Operands(Word::Return)),
+        line: "refused: return takes one number, a partition's, from 0 to 65535, as in: return 3\n",
+    },
+    Refusing {
+        refusal: Refusal::LongLine,
+        line: "refused: the line has more than 64 bytes\n",
     },
     Refusing {
         refusal: Refusal::NoPartition(9),
@@ -98,17 +134,17 @@ const REFUSALS: &[Refusing] = &[
 ];
 
 /// This line is all that was written.
-fn holds(out: &Cursor<[u8; 64]>, line: &str) -> bool {
+fn holds(out: &Cursor<[u8; 640]>, line: &str) -> bool {
     out.get_ref().get(..line.len()) == Some(line.as_bytes()) && out.position() == line.len() as u64
 }
 
 fn writes_answer(answer: Answer, line: &str) -> bool {
-    let mut out = Cursor::new([0xeeu8; 64]);
+    let mut out = Cursor::new([0xeeu8; 640]);
     answer.write_line(&mut out).is_ok() && holds(&out, line)
 }
 
 fn writes_refusal(refusal: Refusal, line: &str) -> bool {
-    let mut out = Cursor::new([0xeeu8; 64]);
+    let mut out = Cursor::new([0xeeu8; 640]);
     refusal.write_line(&mut out).is_ok() && holds(&out, line)
 }
 
@@ -140,4 +176,93 @@ fn fails(answer: Answer) -> bool {
 #[test]
 fn a_full_writer_is_told(rt: HostRuntime) {
     assert!(rt; fails(Answer::Diverted(3)));
+}
+
+const HELP: &str = "\
+help           lists the commands
+totals         what was done so far, and how much is stored
+diverted       which partitions are diverted
+divert 3       calls of partition 3 go to a fallback from now on
+copy 3 100     at most 100 keys of partition 3 are copied back from its fallback
+return 3       calls of partition 3 go to its primary again, once all keys are copied
+stop           the node ends in order
+";
+
+#[test]
+fn writes_the_help(rt: HostRuntime) {
+    let mut out = Cursor::new([0xeeu8; 640]);
+    assert!(rt; write_help(&mut out).is_ok() && holds(&out, HELP));
+}
+
+/// What was answered so far, which partitions are diverted then, and how many.
+struct Noted {
+    answers: &'static [Answer],
+    line: &'static str,
+    count: usize,
+}
+
+const NOTED: &[Noted] = &[
+    Noted {
+        answers: &[],
+        line: "diverted now:\n",
+        count: 0,
+    },
+    Noted {
+        answers: &[Answer::Diverted(0), Answer::Diverted(1_023)],
+        line: "diverted now: 0 1023\n",
+        count: 2,
+    },
+    Noted {
+        answers: &[
+            Answer::Diverted(17),
+            Answer::Diverted(3),
+            Answer::Copied {
+                partition: 3,
+                keys: 1,
+                left: false,
+            },
+            Answer::Refused(Refusal::LeftOver(17)),
+            Answer::Refused(Refusal::AlreadyDiverted(3)),
+        ],
+        line: "diverted now: 3 17\n",
+        count: 2,
+    },
+    Noted {
+        answers: &[
+            Answer::Diverted(3),
+            Answer::Diverted(4),
+            Answer::Returned(3),
+            Answer::Returned(5),
+        ],
+        line: "diverted now: 4\n",
+        count: 1,
+    },
+    Noted {
+        answers: &[
+            Answer::Diverted(3),
+            Answer::Returned(3),
+            Answer::Diverted(1_024),
+            Answer::Diverted(3),
+        ],
+        line: "diverted now: 3\n",
+        count: 1,
+    },
+];
+
+fn keeps_diverted(row: &Noted) -> bool {
+    let mut partitions = DivertedPartitions::none();
+    for answer in row.answers {
+        partitions.note(*answer);
+    }
+    let mut out = Cursor::new([0xeeu8; 640]);
+    partitions.write_line(&mut out).is_ok()
+        && holds(&out, row.line)
+        && partitions.count() == row.count
+}
+
+#[test]
+fn keeps_which_are_diverted(rt: HostRuntime) {
+    for row in NOTED {
+        assert!(rt; keeps_diverted(row), "{}", row.line);
+    }
 }
