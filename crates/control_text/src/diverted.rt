@@ -2,7 +2,8 @@
 
 ghost use Rattle.std.specs.Prelude.{◌≡◌, ◌≤◌, ℕ, [], OnOk, cond, slice_set};
 ghost use Rattle.std.specs.Io.KnownBytes.{Appends};
-ghost use Rattle.control_text.specs.Diverted.{after, count_diverted, diverted_line, index_text, indices_text};
+ghost use Rattle.control_text.specs.Diverted.{after, count_diverted, diverted_line};
+ghost use Rattle.control_text.specs.Diverted.{index_text, indices_text};
 
 use crate::answer::Answer;
 use std::io;

@@ -8,12 +8,19 @@ ghost use Rattle.control_text.specs.Mistakes.{IsMistakeIn, IsMistakeOf, NamesWor
 /// The word that a command begins with.
 #[derive(Clone, Copy, Drop, PartialEq, Eq)]
 pub enum Word {
+    /// `help`, which stands alone.
     Help,
+    /// `totals`, which stands alone.
     Totals,
+    /// `diverted`, which stands alone.
     Diverted,
+    /// `divert`, before a partition.
     Divert,
+    /// `copy`, before a partition and a number of keys.
     Copy,
+    /// `return`, before a partition.
     Return,
+    /// `stop`, which stands alone.
     Stop,
 }
 
