@@ -7,7 +7,7 @@ ghost use Rattle.node_session.specs.Unsent.{PutsReply, IsFront};
 
 use crate::constant_frames::{constant_frame, error_frame, nothing_frame};
 use crate::reply::fill_frame;
-use crate::scratch::Scratch;
+use crate::scratch::{MOST_ROOM, Scratch};
 use pb_frame::FrameFault;
 use riak_msgs::{Reply, Text};
 use std::alloc::Global;
@@ -38,6 +38,17 @@ impl Model for ReplyFrame {
     ghost view = { λ o. drop o.sent o.frame.items ++ o.constant.now };
 
     ghost invariant = { λ o. o.sent ≤ vec_len o.frame };
+}
+
+/// Empties the buffer of a frame that was sent. Its memory goes back at once where the worker wouldn't take it: its session may be held up before it takes
+/// its next step.
+fn clear_frame(frame: &mut Vec<u8>)
+    ensures { frame.new.items ≡ [] }
+{
+    frame.clear();
+    if frame.capacity() > MOST_ROOM {
+        frame.shrink_to_fit();
+    }
 }
 
 impl ReplyFrame {
@@ -81,7 +92,7 @@ impl ReplyFrame {
         } else {
             self.constant = &self.constant[n - waits..];
             self.sent = 0;
-            self.frame.clear();
+            clear_frame(&mut self.frame);
         }
     }
 

@@ -9,7 +9,7 @@ use std::alloc::Global;
 use std::mem;
 
 /// How much room is kept for requests, and how much for a reply, in bytes.
-const MOST_ROOM: usize = 65_520;
+pub(crate) const MOST_ROOM: usize = 65_520;
 
 /// What a worker lends to each step of its sessions: the bytes that a read comes into, those of a long message, room for requests that are still to be
 /// answered, and room for the frame of a reply.
