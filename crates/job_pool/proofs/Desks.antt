@@ -18,10 +18,6 @@ use Rattle.job_pool.specs.declared.worker.NumberedEnd.{NumberedEnd}
 use Rattle.job_pool.proofs.Lists.{pairs_more, pairs_snoc}
 use Rattle.job_pool.proofs.Ends.{taken_more, chain_more}
 
--- two answers of one look
-pub one_value : {O : Type 0} → (o : Option O) (a b : O) → o ≡ Some a → o ≡ Some b → b ≡ a
-one_value o a b p q = let e : Some a ≡ Some b = sym p ∙ q in cc
-
 -- another value in a slot that has one
 pub count-set : {O : Type 0} → (slots : List (Option O)) (key : ℕ) (was now : O) → get_or slots key None ≡ Some was → count_by is_some (set slots key (Some now)) ≡ count_by is_some slots
 count-set [] key was now found = absurd (cc)
@@ -104,6 +100,13 @@ removed : {O : Type 0} → (slots after : Slab O) (key : ℕ) (now : O) → Upda
 removed slots after key now p = record {
   changed = p.changed;
   others = λ other differs. p.others other differs ∙ get_or-set_other slots.slots key other (Some now) None differs;
+}
+
+-- and what is removed without one is removed after it
+pub rewritten : {O : Type 0} → (slots after : Slab O) (key : ℕ) (now : O) → Updates slots after key None → Updates (with_value slots key now) after key None
+rewritten slots after key now p = record {
+  changed = p.changed;
+  others = λ other differs. p.others other differs ∙ sym (get_or-set_other slots.slots key other (Some now) None differs);
 }
 
 module _ {S W J E : Type 0} (Serves : W → J → W → E → Type 0) (service : S) where

@@ -1,6 +1,6 @@
 //! The jobs that a worker has open.
-ghost use Rattle.std.specs.Prelude.{◌≡◌, ◌+◌, ◌==◌, ◌∷◌, ◌++◌, [], true};
-ghost use Rattle.slab.specs.Slab.{slab_len, HasRoomFor};
+ghost use Rattle.std.specs.Prelude.{◌≡◌, ◌+◌, ◌==◌, ◌∷◌, ◌++◌, [], true, IsSomeAnd};
+ghost use Rattle.slab.specs.Slab.{get, slab_len, HasRoomFor};
 ghost use Rattle.job_pool.specs.Ends.{HasWorked};
 
 use crate::queue::NumberedJob;
@@ -17,7 +17,7 @@ use std::snapshot::Snapshot;
 
 /// How many steps a job takes at most before others have their turn: enough for some 300 short requests, so that a job mostly stops where it
 /// waits for more, and holds little then. A turn whose steps cost more ends before, once its readiness says so.
-const MAX_STEPS_PER_TURN: u32 = 1024;
+pub const MAX_STEPS_PER_TURN: u32 = 1024;
 
 /// The jobs that a worker has open, each in a slot, the worker's state, and what is told the ends.
 ///
@@ -163,6 +163,21 @@ impl<'a, S: Service, K: Sink<S> + Drop> Desk<'a, S, K> {
         }
     }
 
+    /// Ends the job in a slot, which is over: its end is told the sink, and the slot is free. It stands apart from the step, whose caller would else keep
+    /// room for all that ends a job, and clear it at each step.
+    #[inline(never)]
+    fn end(&mut self, slot: usize)
+        requires { IsSomeAnd (get self.old.seats slot) (λ seat. seat.ended ≡ true) }
+        ensures service { self.new.service ≡ self.old.service }
+        ensures first { self.new.first ≡ self.old.first }
+        ensures taken { self.new.taken ≡ self.old.taken }
+    {
+        let service = self.service;
+        let seat = self.seats.remove(slot);
+        let (number, job, end) = seat.close(service, &mut self.worker);
+        self.sink.tell(service, number, job, end);
+    }
+
     /// Takes one step of the job in a slot. Its end, if it comes to that, is told the sink, and the slot is free. In a slot that is free
     /// nothing is done.
     #[inline(always)]
@@ -180,9 +195,7 @@ impl<'a, S: Service, K: Sink<S> + Drop> Desk<'a, S, K> {
             Moved::Waits => return Moved::Waits,
             Moved::Over => {}
         }
-        let seat = self.seats.remove(slot);
-        let (number, job, end) = seat.close(service, &mut self.worker);
-        self.sink.tell(service, number, job, end);
+        self.end(slot);
         Moved::Over
     }
 

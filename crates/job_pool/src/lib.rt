@@ -61,6 +61,7 @@ mod told;
 mod worker;
 
 pub use collect::{Finished, run, run_with};
+pub use desk::MAX_STEPS_PER_TURN;
 pub use fault::RunFault;
 pub use jobs::{JobFault, Jobs};
 pub use pool::{MAX_WAITING, run_at};

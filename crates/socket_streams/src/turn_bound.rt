@@ -10,8 +10,8 @@ const MAX_BYTES: usize = 65_536;
 /// How long a turn may take, in microseconds, before others have theirs.
 const MAX_MICROS: u32 = 1_000;
 
-/// Behind how many steps a turn's time begins: one that answers a single request ends before, and so asks for no clock.
-const UNTIMED_STEPS: u32 = 4;
+/// Behind how many steps a turn's time begins: one that answers a single request takes seven, and so asks for no clock.
+const UNTIMED_STEPS: u32 = 8;
 
 /// Behind how many steps each the clock is looked at.
 const LOOK_STEPS: u32 = 16;
