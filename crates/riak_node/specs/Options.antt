@@ -72,6 +72,7 @@ module _ (found : Found) where
     pub connections : IsNumberIfGiven 65535 (codes "connections") options.connections
     pub idle : IsNumberIfGiven 4294967295 (codes "idle") options.waiting.idle_seconds
     pub spin : IsNumberIfGiven 1000 (codes "spin") options.waiting.spin_micros
+    pub replies : IsNumberIfGiven 18446744073709551615 (codes "replies") options.waiting.replies_bytes
     pub workers : IsNumber 1 64 (codes "workers") 4 options.workers
     pub run : IsNumber 1 4294967295 (codes "run") 1 options.run
     pub sweep : IsNumber 0 4294967295 (codes "sweep") 0 options.sweep

@@ -56,6 +56,7 @@ fn serve<'a>(alloc: Global) -> Result<clap::Command<'a>, AllocError> {
         .arg(options::port(alloc))?
         .arg(options::idle(alloc))?
         .arg(options::spin(alloc))?
+        .arg(options::replies(alloc))?
         .arg(options::until_eof(alloc))?
         .arg(options::control(alloc))?
         .arg(options::control_port(alloc)?)?

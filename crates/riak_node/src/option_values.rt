@@ -81,10 +81,13 @@ fn waiting(found: &ArgMatches<'_>) -> Waiting
     ensures idle { IsNumberIfGiven (found_of found.now) 4294967295 (codes "idle")
         result.idle_seconds }
     ensures spin { IsNumberIfGiven (found_of found.now) 1000 (codes "spin") result.spin_micros }
+    ensures replies { IsNumberIfGiven (found_of found.now) 18446744073709551615 (codes "replies")
+        result.replies_bytes }
 {
     Waiting {
         idle_seconds: found.get_one::<u32>("idle"),
         spin_micros: found.get_one::<u32>("spin"),
+        replies_bytes: found.get_one::<u64>("replies"),
     }
 }
 

@@ -64,6 +64,17 @@ pub(crate) fn spin<'a>(alloc: Global) -> Arg<'a> {
         )
 }
 
+/// How many bytes of replies may wait.
+pub(crate) fn replies<'a>(alloc: Global) -> Arg<'a> {
+    Arg::new(alloc, "replies")
+        .long("replies")
+        .value_name("BYTES")
+        .value_parser(value_parser!(u64).range(1..))
+        .help(
+            "While replies of so many bytes wait in all because clients don't read them, serve no other client. Give --idle too, which closes who never reads. Without it replies take as much memory as there is",
+        )
+}
+
 /// Whether the end of standard input ends serving.
 pub(crate) fn until_eof<'a>(alloc: Global) -> Arg<'a> {
     Arg::new(alloc, "until-eof")

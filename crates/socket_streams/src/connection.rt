@@ -22,6 +22,10 @@ pub(crate) struct Connection {
     is_over: AtomicBool,
     /// How many bytes were read and written in this turn. Its worker alone counts.
     moved: AtomicUsize,
+    /// How many bytes of replies wait because the socket didn't take them. Its worker alone counts.
+    waiting: AtomicUsize,
+    /// Whether one of its halves was called since its worker asked that last.
+    is_called: AtomicBool,
 }
 
 /// Whether an error says that the same call may go well later.
@@ -41,6 +45,8 @@ impl Connection {
             is_asked: AtomicBool::new(false),
             is_over: AtomicBool::new(false),
             moved: AtomicUsize::new(0),
+            waiting: AtomicUsize::new(0),
+            is_called: AtomicBool::new(false),
         }
     }
 
@@ -57,6 +63,8 @@ impl Connection {
             is_asked: _,
             is_over: _,
             moved: _,
+            waiting: _,
+            is_called: _,
         } = self;
         stream
     }
@@ -95,6 +103,39 @@ impl Connection {
     /// It begins a turn, in which nothing was read or written yet.
     pub(crate) fn begin_turn(&self) {
         self.moved.store(0, Ordering::Relaxed);
+        self.is_called.store(false, Ordering::Relaxed);
+    }
+
+    /// One of its halves is called.
+    pub(crate) fn note_call(&self) {
+        self.is_called.store(true, Ordering::Relaxed);
+    }
+
+    /// Whether one of its halves was called since that was asked last, or since its turn began.
+    pub(crate) fn take_call(&self) -> bool {
+        let is_called = self.is_called.load(Ordering::Relaxed);
+        self.is_called.store(false, Ordering::Relaxed);
+        is_called
+    }
+
+    /// So many bytes of replies are handed to the system: they wait until it has taken the last of them.
+    pub(crate) fn note_handed(&self, bytes: usize) {
+        let most = self.waiting.load(Ordering::Relaxed).max(bytes);
+        self.waiting.store(most, Ordering::Relaxed);
+        self.note_call();
+    }
+
+    /// The system took so many bytes of those that were left of them.
+    pub(crate) fn note_taken(&self, taken: usize, left: usize) {
+        self.note_moved(taken);
+        if taken == left {
+            self.waiting.store(0, Ordering::Relaxed);
+        }
+    }
+
+    /// How many bytes of replies wait. A reply counts whole until the last of it is taken.
+    pub(crate) fn waiting(&self) -> usize {
+        self.waiting.load(Ordering::Relaxed)
     }
 
     /// So many bytes were read or written.

@@ -4,18 +4,17 @@ use crate::door::Door;
 use crate::halves::{ReplyHalf, RequestHalf};
 use crate::lingering::{LOOK_MILLIS, Lingering};
 use crate::pause::PAUSE_MILLIS;
+use crate::replies_bound::{ASIDE_MILLIS, RepliesBound};
+use crate::reports::{note_events, register};
 use crate::slots::{Patience, Slots};
 use crate::stop::Stop;
 use crate::turn_bound::TurnBound;
 use crate::waiting::{Spin, Waiting};
-use crate::waits::{WAKER, Waits};
+use crate::waits::Waits;
 use crate::worker_clock::WorkerClock;
 use job_pool::{Moved, Turn};
-use mio::unix::SourceFd;
-use mio::{Events, Interest, Poll, Token};
 use session_pool::StreamReadiness;
 use std::alloc::Global;
-use std::io::ErrorKind;
 use std::rt::Clock;
 use std::sync::{Arc, Wait};
 use std::time::Duration;
@@ -38,6 +37,7 @@ pub struct SocketDesk<'s, X> {
     spin: Spin,
     slots: Slots,
     bound: TurnBound,
+    replies: RepliesBound,
     /// The sockets of connections that have ended while their clients may still be sending.
     lingering: Lingering,
     clock: WorkerClock,
@@ -68,6 +68,7 @@ impl<'s, X> Drop for SocketDesk<'s, X> {
             spin: _spin,
             slots: _slots,
             bound: _bound,
+            replies: _replies,
             lingering: _lingering,
             clock: _clock,
             now: _now,
@@ -81,34 +82,6 @@ impl<'s, X> Drop for SocketDesk<'s, X> {
     }
 }
 
-/// Has a connection's slot reported when bytes can be read or written, and when urgent data have come.
-fn register(poll: &Poll, reader: &RequestHalf, slot: usize) -> io::Result<()> {
-    let Some(descriptor) = reader.descriptor() else {
-        return Err(ErrorKind::NotConnected.into());
-    };
-    poll.registry().register(
-        &mut SourceFd(&descriptor),
-        Token(slot),
-        Interest::READABLE | Interest::WRITABLE | Interest::PRIORITY,
-    )
-}
-
-/// Notes which slots are ready at this time. `is_stopping` where none is waited for any more.
-fn note_events(slots: &mut Slots, events: &Events<Global>, now: u64, is_stopping: bool) {
-    for event in events.iter() {
-        let Token(slot) = event.token();
-        if slot != WAKER {
-            slots.note_move(slot, now);
-            let is_asked = event.is_read_closed() || event.is_error() || event.is_priority();
-            slots.note_event(slot, is_asked);
-            if !is_stopping {
-                slots.set_patience(slot, Patience::Open);
-            }
-            slots.mark_ready(slot);
-        }
-    }
-}
-
 impl<'s, X: Clock + Wait> SocketDesk<'s, X> {
     /// No connection is open, and it is to wait so.
     pub(crate) fn new(
@@ -118,6 +91,7 @@ impl<'s, X: Clock + Wait> SocketDesk<'s, X> {
         door: Arc<Door, Global>,
         waits: Waits,
         waiting: Waiting,
+        replies: RepliesBound,
     ) -> SocketDesk<'s, X> {
         SocketDesk {
             rt,
@@ -127,6 +101,7 @@ impl<'s, X: Clock + Wait> SocketDesk<'s, X> {
             spin: Spin::new(waiting.spin_micros),
             slots: Slots::new(alloc),
             bound: TurnBound::new(),
+            replies,
             lingering: Lingering::new(rt, alloc),
             clock: WorkerClock::new(rt, waiting.idle_seconds),
             now: 0,
@@ -153,6 +128,7 @@ impl<'s, X: Clock + Wait> SocketDesk<'s, X> {
     /// turn's read is a call, whatever its last run's reads have met. Where it can't be watched, its next read meets the end, unless it is to rest.
     fn watch(&mut self, slot: usize, reader: &RequestHalf) {
         if self.begin_slot(slot, reader) && register(&self.waits.poll, reader, slot).is_ok() {
+            self.replies.count(&mut self.slots, slot);
             self.slots.mark_asked(slot);
             return;
         }
@@ -163,25 +139,52 @@ impl<'s, X: Clock + Wait> SocketDesk<'s, X> {
     }
 
     /// The turn of a slot, of which the sink is to know whether it cuts the connection off.
-    fn turn(&self, slot: usize, may_wait: bool) -> Turn {
+    fn turn(&mut self, slot: usize, may_wait: bool) -> Turn {
         self.door.set_cutting(!may_wait);
         self.slots.begin_turn(slot);
+        self.replies.begin_turn();
         Turn { slot, may_wait }
+    }
+
+    /// Whether connections may be set aside.
+    fn may_set_aside(&self) -> bool {
+        !self.is_stopping && !self.is_pausing
+    }
+
+    /// Sets those aside that come first, of so many, whose turns are put off. How many are left of these.
+    fn set_aside(&mut self, left: usize) -> usize {
+        if !self.replies.is_reached() || !self.may_set_aside() {
+            return left;
+        }
+        for passed in 0..left {
+            match self.slots.first_ready() {
+                Some(slot) if self.replies.puts_off(&self.slots, slot) => self.slots.set_aside(),
+                _ => return left.saturating_sub(passed),
+            }
+        }
+        0
     }
 
     /// The next turn of the round; None where it has none left, and has ended.
     fn next_of_round(&mut self) -> Option<Turn> {
-        let left = match self.round {
+        let due = match self.round {
             Some(left) => left,
             None => self.slots.ready(),
         };
         self.round = None;
+        let left = self.set_aside(due);
         if left == 0 {
             return None;
         }
         let slot = self.slots.take_ready()?;
         self.round = Some(left - 1);
-        Some(self.turn(slot, self.slots.patience(slot) != Some(Patience::Gone)))
+        let may_wait = self.slots.patience(slot) != Some(Patience::Gone);
+        Some(self.turn(slot, may_wait))
+    }
+
+    /// Whether those that are set aside may go on.
+    fn may_release(&self) -> bool {
+        self.slots.has_aside() && !(self.may_set_aside() && self.replies.is_reached())
     }
 
     /// The connection in a slot would have to wait.
@@ -237,6 +240,9 @@ impl<'s, X: Clock + Wait> SocketDesk<'s, X> {
 
     /// How long may be waited for what is ready next; for ever, where it is None.
     fn limit(&self) -> Option<Duration> {
+        if self.slots.has_aside() {
+            return Some(Duration::from_millis(ASIDE_MILLIS));
+        }
         if self.lingering.is_empty() {
             return self.clock.limit();
         }
@@ -257,7 +263,7 @@ impl<'s, X: Clock + Wait> SocketDesk<'s, X> {
     fn poll(&mut self, is_idle: bool) {
         // who wakes it from now on writes to its waker, and what was to wake it before is looked for behind this
         self.door.set_waiting(true);
-        let is_busy = self.slots.ready() > 0 || self.is_called(is_idle);
+        let is_busy = self.slots.ready() > 0 || self.may_release() || self.is_called(is_idle);
         if self.wait_for(is_busy).is_err() {
             thread::sleep(self.rt, Duration::from_millis(PAUSE_MILLIS));
         }
@@ -348,7 +354,8 @@ impl<'s, X: Clock + Wait> StreamReadiness<RequestHalf, ReplyHalf> for SocketDesk
 
     fn ends_turn(&mut self, slot: usize, before: u32) -> bool {
         let moved = self.slots.moved(slot);
-        self.bound.is_reached(self.rt, moved, before)
+        let is_enough = self.bound.is_reached(self.rt, moved, before);
+        self.replies.ends_turn(&self.slots, slot, is_enough, before)
     }
 
     fn after(&mut self, slot: usize, moved: Moved) {
@@ -357,6 +364,7 @@ impl<'s, X: Clock + Wait> StreamReadiness<RequestHalf, ReplyHalf> for SocketDesk
             Moved::Going => self.note_going(slot),
             Moved::Waits => self.note_waiting(slot),
         }
+        self.replies.count(&mut self.slots, slot);
     }
 
     fn wait<T: Wait>(&mut self, _rt: &T, is_idle: bool) {
@@ -367,6 +375,9 @@ impl<'s, X: Clock + Wait> StreamReadiness<RequestHalf, ReplyHalf> for SocketDesk
         self.note_ready();
         self.note_stop();
         self.note_pause();
+        if self.may_release() {
+            self.slots.release(self.now);
+        }
         if !self.lingering.is_empty() {
             self.lingering.pass_over(self.rt, self.door.is_closing());
         }

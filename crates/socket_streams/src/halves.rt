@@ -89,7 +89,7 @@ fn send(socket: &Socket, taken: &mut GhostList<u8>, bytes: &[u8]) -> io::Result<
     let came = stream.write(bytes);
     match &came {
         Ok(n) => {
-            socket.note_moved(*n);
+            socket.note_taken(*n, bytes.len());
             let more: (&GhostList<u8>, &[u8], usize) = (&*taken, bytes, *n);
             *taken = GhostList::listed::<(&GhostList<u8>, &[u8], usize), WithFirst>(&more);
         }
@@ -162,6 +162,7 @@ impl Read for RequestHalf {
         let Some(socket) = &self.socket else {
             return Ok(0);
         };
+        socket.note_call();
         if socket.is_drained() {
             return Err(ErrorKind::WouldBlock.into());
         }
@@ -196,8 +197,8 @@ impl ReplyHalf {
         }
     }
 
-    /// Writes all that is gathered to the socket. `WouldBlock` where that doesn't take it all now.
-    fn send_gathered(&mut self) -> io::Result<()>
+    /// Writes all that is gathered to the socket. `WouldBlock` where that doesn't take it all now: then so many bytes behind it wait too.
+    fn send_gathered(&mut self, behind: usize) -> io::Result<()>
         ensures kept { written self.new ≡ written self.old }
         ensures all { OnOk result (self.new.held ≡ []) }
         ensures lost { self.new.lost ≡ self.old.lost }
@@ -205,6 +206,7 @@ impl ReplyHalf {
         let Some(socket) = &self.socket else {
             return Ok(());
         };
+        socket.note_handed(self.gathered.len().saturating_add(behind));
         send_rest(socket, &mut self.taken, &self.gathered, &mut self.sent)?;
         self.gathered.clear();
         self.sent = 0;
@@ -220,7 +222,10 @@ impl ReplyHalf {
         ensures lost { self.new.lost ≡ self.old.lost }
     {
         match &self.socket {
-            Some(socket) => send(socket, &mut self.taken, buf),
+            Some(socket) => {
+                socket.note_handed(buf.len());
+                send(socket, &mut self.taken, buf)
+            }
             None => Ok(0),
         }
     }
@@ -239,10 +244,11 @@ impl Write for ReplyHalf {
         ensures lost { self.new.lost ≡ self.old.lost }
     {
         if self.gathered.len() >= MAX_GATHERED {
-            self.send_gathered()?;
+            self.send_gathered(buf.len())?;
         }
-        if self.socket.is_none() {
-            return Ok(0);
+        match &self.socket {
+            Some(socket) => socket.note_call(),
+            None => return Ok(0),
         }
         if self.gathered.is_empty() && buf.len() >= MAX_GATHERED {
             return self.write_through(buf);
@@ -252,7 +258,7 @@ impl Write for ReplyHalf {
         if self.gathered.extend_from_slice(piece).is_ok() {
             return Ok(piece.len());
         }
-        self.send_gathered()?;
+        self.send_gathered(buf.len())?;
         self.write_through(buf)
     }
 
@@ -261,7 +267,7 @@ impl Write for ReplyHalf {
         ensures all { OnOk result (self.new.held ≡ []) }
         ensures lost { self.new.lost ≡ self.old.lost }
     {
-        self.send_gathered()?;
+        self.send_gathered(0)?;
         shrink_empty(&mut self.gathered);
         Ok(())
     }

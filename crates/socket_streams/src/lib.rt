@@ -39,6 +39,8 @@ mod limits;
 mod lingering;
 mod log_sink;
 mod pause;
+mod replies_bound;
+mod reports;
 mod sessions;
 mod slots;
 mod spare;

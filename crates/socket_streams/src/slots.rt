@@ -27,27 +27,58 @@ pub(crate) struct Slot {
     /// The slot behind it in the queue of those that are ready.
     next: usize,
     patience: Patience,
-    /// Whether it stands in the queue of those that are to have a turn.
+    /// Whether it stands in one of the two queues.
     is_ready: bool,
+    /// Whether it stands in the queue of those that are set aside.
+    is_aside: bool,
     /// The window in which it had its last turn.
     window: u32,
+    /// How many bytes of its replies were counted as waiting, behind its last turn.
+    counted: usize,
 }
 
-/// The slots of a worker, and the queue of those that are to have a turn.
+/// A queue of slots, which goes from slot to slot.
+#[derive(Clone, Copy, Drop)]
+struct Line {
+    /// The first, where there is one.
+    first: usize,
+    /// The last one.
+    last: usize,
+    /// How many there are.
+    count: usize,
+}
+
+/// The queue of no slot.
+const EMPTY: Line = Line {
+    first: 0,
+    last: 0,
+    count: 0,
+};
+
+/// The slots of a worker, the queue of those that are to have a turn, and the queue of those that were to have one and were set aside.
 ///
-/// The queue goes from slot to slot, so that what becomes ready takes no memory.
+/// A queue goes from slot to slot, so that what becomes ready takes no memory.
 #[derive(Drop)]
 pub(crate) struct Slots {
     alloc: Global,
     slots: Vec<Slot>,
-    /// The first that is to have a turn, where there is one.
-    first: usize,
-    /// The last one.
-    last: usize,
-    /// How many are to have a turn.
-    ready: usize,
+    /// Those that are to have a turn.
+    ready: Line,
+    /// Those that are set aside.
+    aside: Line,
     /// How many had one lately.
     activity: Activity,
+}
+
+impl Line {
+    /// Of one slot.
+    fn of(slot: usize) -> Line {
+        Line {
+            first: slot,
+            last: slot,
+            count: 1,
+        }
+    }
 }
 
 impl Slots {
@@ -56,9 +87,8 @@ impl Slots {
         Slots {
             alloc,
             slots: Vec::new(alloc),
-            first: 0,
-            last: 0,
-            ready: 0,
+            ready: EMPTY,
+            aside: EMPTY,
             activity: Activity::new(),
         }
     }
@@ -96,7 +126,9 @@ impl Slots {
                 next: 0,
                 patience: Patience::Open,
                 is_ready: false,
+                is_aside: false,
                 window: 0,
+                counted: 0,
             };
             if self.slots.push(free).is_err() {
                 return false;
@@ -149,6 +181,35 @@ impl Slots {
         }
     }
 
+    /// Whether the connection in a slot has called its socket since that was asked last, or since its turn began.
+    pub(crate) fn take_call(&self, slot: usize) -> bool {
+        match self.socket(slot) {
+            Some(socket) => socket.take_call(),
+            None => false,
+        }
+    }
+
+    /// How many bytes of replies of the connection in a slot wait.
+    pub(crate) fn waiting(&self, slot: usize) -> usize {
+        match self.socket(slot) {
+            Some(socket) => socket.waiting(),
+            None => 0,
+        }
+    }
+
+    /// How many bytes of replies were counted as waiting in a slot, and how many wait there now, which counts from now on.
+    pub(crate) fn recount(&mut self, slot: usize) -> (usize, usize) {
+        let now = self.waiting(slot);
+        match self.slots.get_mut(slot) {
+            Some(one) => {
+                let before = one.counted;
+                one.counted = now;
+                (before, now)
+            }
+            None => (0, 0),
+        }
+    }
+
     /// How long the connection in a slot is waited for; None where none is open.
     pub(crate) fn patience(&self, slot: usize) -> Option<Patience> {
         match self.slots.get(slot) {
@@ -171,11 +232,14 @@ impl Slots {
         }
     }
 
-    /// Whether the connection in a slot is waited for, and was silent since then.
+    /// Whether the connection in a slot is waited for, and was silent since then. One that is set aside isn't.
     pub(crate) fn is_silent(&self, slot: usize, since: u64) -> bool {
         match self.slots.get(slot) {
             Some(one) => {
-                one.socket.is_some() && one.patience == Patience::Open && one.moved < since
+                one.socket.is_some()
+                    && one.patience == Patience::Open
+                    && !one.is_aside
+                    && one.moved < since
             }
             None => false,
         }
@@ -193,18 +257,29 @@ impl Slots {
         }
     }
 
-    /// Puts a slot at the end of the queue of those that are ready, if it isn't there.
+    /// Puts these slots at the end of a queue, of which the first leads to the others. The queue.
+    fn joined(&mut self, line: Line, more: Line) -> Line {
+        if more.count == 0 {
+            return line;
+        }
+        if line.count == 0 {
+            return more;
+        }
+        if let Some(before) = self.slots.get_mut(line.last) {
+            before.next = more.first;
+        }
+        Line {
+            first: line.first,
+            last: more.last,
+            count: line.count.saturating_add(more.count),
+        }
+    }
+
+    /// Puts a slot at the end of the queue of those that are ready, if it is in no queue.
     pub(crate) fn mark_ready(&mut self, slot: usize) {
-        if !self.mark(slot) {
-            return;
+        if self.mark(slot) {
+            self.ready = self.joined(self.ready, Line::of(slot));
         }
-        if self.ready == 0 {
-            self.first = slot;
-        } else if let Some(before) = self.slots.get_mut(self.last) {
-            before.next = slot;
-        }
-        self.last = slot;
-        self.ready = self.ready.saturating_add(1);
     }
 
     /// The same of a slot whose next read is a call, whatever was reported.
@@ -213,19 +288,56 @@ impl Slots {
         self.mark_ready(slot);
     }
 
-    /// Takes the first slot out of the queue. It may be put there again.
-    pub(crate) fn take_ready(&mut self) -> Option<usize> {
-        if self.ready == 0 {
+    /// The first slot of those that are ready.
+    pub(crate) fn first_ready(&self) -> Option<usize> {
+        if self.ready.count == 0 {
             return None;
         }
-        let slot = self.first;
+        Some(self.ready.first)
+    }
+
+    /// Takes the first slot out of the queue of those that are ready. It may be put there again.
+    pub(crate) fn take_ready(&mut self) -> Option<usize> {
+        let slot = self.first_ready()?;
         let slots = self.slots.len();
         let one = self.slots.get_mut(slot)?;
         one.is_ready = false;
         one.window = self.activity.note_turn(one.window, slots);
-        self.first = one.next;
-        self.ready -= 1;
+        self.ready.first = one.next;
+        self.ready.count = self.ready.count.saturating_sub(1);
         Some(slot)
+    }
+
+    /// Sets the first slot of those that are ready aside, behind those that are.
+    pub(crate) fn set_aside(&mut self) {
+        let Some(slot) = self.first_ready() else {
+            return;
+        };
+        if let Some(one) = self.slots.get_mut(slot) {
+            one.is_aside = true;
+            self.ready.first = one.next;
+            self.ready.count = self.ready.count.saturating_sub(1);
+            self.aside = self.joined(self.aside, Line::of(slot));
+        }
+    }
+
+    /// Whether slots are set aside.
+    pub(crate) fn has_aside(&self) -> bool {
+        self.aside.count > 0
+    }
+
+    /// Puts those that are set aside at the end of the queue of those that are ready. At this time all of them have moved.
+    pub(crate) fn release(&mut self, now: u64) {
+        let mut slot = self.aside.first;
+        for _ in 0..self.aside.count {
+            if let Some(one) = self.slots.get_mut(slot) {
+                one.is_aside = false;
+                one.moved = now;
+                slot = one.next;
+            }
+        }
+        self.ready = self.joined(self.ready, self.aside);
+        self.aside = EMPTY;
     }
 
     /// How many connections had a turn lately.
@@ -235,6 +347,6 @@ impl Slots {
 
     /// How many slots are ready.
     pub(crate) fn ready(&self) -> usize {
-        self.ready
+        self.ready.count
     }
 }

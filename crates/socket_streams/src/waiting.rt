@@ -15,6 +15,8 @@ pub struct Waiting {
     pub idle_seconds: Option<u32>,
     /// For how many microseconds a worker spins before it sleeps, if it does.
     pub spin_micros: Option<u32>,
+    /// While replies of so many bytes wait in all connections together, no connection begins a further one, if there is such a number.
+    pub replies_bytes: Option<u64>,
 }
 
 /// Whether a worker spins before it sleeps: looks for what is ready, and yields its processor to other threads between two looks.

@@ -5,6 +5,7 @@ ghost use Rattle.job_pool.specs.Lists.{Every};
 use crate::desk::SocketDesk;
 use crate::door::{Door, SocketBell};
 use crate::log_sink::LogSink;
+use crate::replies_bound::{RepliesBound, WaitingBytes};
 use crate::stop::Stop;
 use crate::waiting::Waiting;
 use job_pool::Post;
@@ -16,6 +17,7 @@ use std::io;
 use std::net::{Net, OpenListener};
 use std::os::fd::AsRawFd;
 use std::rt::Clock;
+use std::sync::atomic::AtomicUsize;
 use std::sync::{Arc, Wait};
 use worker_pool::Shown;
 
@@ -121,12 +123,13 @@ fn new_post<'s, X: Clock + Wait>(
     stop: &'s Stop,
     worker: WorkerWaits,
     waiting: Waiting,
+    replies: RepliesBound,
 ) -> io::Result<SocketPost<'s, X>> {
     let WorkerWaits { waits, door } = worker;
     let of_bell = Arc::try_clone(&door)?;
     Ok(Post {
         readiness: Shown {
-            streams: SocketDesk::new(rt, alloc, stop, door, waits, waiting),
+            streams: SocketDesk::new(rt, alloc, stop, door, waits, waiting, replies),
         },
         bell: SocketBell { door: of_bell },
     })
@@ -139,11 +142,13 @@ fn new_seat<'a: 's, 's, X: Clock + Wait>(
     stop: &'s Stop,
     worker: WorkerWaits,
     waiting: Waiting,
+    replies: &WaitingBytes,
 ) -> io::Result<SocketSeat<'a, 's, X>>
     ensures { IfOk result (λ seat. seat.sink ≡ []) }
 {
     let of_sink = Arc::try_clone(&worker.door)?;
-    let Post { readiness, bell } = new_post(rt, alloc, stop, worker, waiting)?;
+    let bound = RepliesBound::of(waiting.replies_bytes, Arc::try_clone(replies)?);
+    let Post { readiness, bell } = new_post(rt, alloc, stop, worker, waiting, bound)?;
     Ok(Seat {
         sink: LogSink::new(rt, alloc, of_sink),
         readiness: readiness.streams,
@@ -164,10 +169,12 @@ pub fn new_posts<'s, X: Clock + Wait>(
     let waiting = Waiting {
         idle_seconds: None,
         spin_micros: None,
+        replies_bytes: None,
     };
     let mut posts = Vec::new(alloc);
     for worker in workers {
-        posts.push(new_post(rt, alloc, stop, worker, waiting)?)?;
+        let bound = RepliesBound::none();
+        posts.push(new_post(rt, alloc, stop, worker, waiting, bound)?)?;
     }
     Ok(posts)
 }
@@ -184,9 +191,10 @@ pub fn new_seats<'a: 's, 's, X: Clock + Wait>(
     ensures count { IfOk result (λ seats. length seats.items ≡ length workers.items) }
     ensures new { IfOk result (λ seats. Every (λ seat. seat.sink ≡ []) seats.items) }
 {
+    let replies = Arc::new(alloc, AtomicUsize::new(0))?;
     let mut seats = Vec::new(alloc);
     for worker in workers {
-        seats.push(new_seat(rt, alloc, stop, worker, waiting)?)?;
+        seats.push(new_seat(rt, alloc, stop, worker, waiting, &replies)?)?;
     }
     Ok(seats)
 }

@@ -244,6 +244,7 @@ fn serves<'a, R: Log + Clock + Net + Threads + Wait + Sync>(
         waiting: Waiting {
             idle_seconds: None,
             spin_micros: Some(50),
+            replies_bytes: None,
         },
     };
     let (unanswered, unwritten) = (AtomicUsize::new(1), AtomicUsize::new(1));

@@ -158,12 +158,14 @@ const ONE_OF_EACH: Option<&str> = Some("gets 1 puts 1 deletes 0 refusals 0 reaps
 const ASLEEP: Waiting = Waiting {
     idle_seconds: None,
     spin_micros: None,
+    replies_bytes: None,
 };
 
 /// Workers that close who is silent for a second, and spin.
 const ONE_SECOND: Waiting = Waiting {
     idle_seconds: Some(1),
     spin_micros: Some(50),
+    replies_bytes: None,
 };
 
 /// One worker that serves until its input ends, and whom no client comes to. Rows say what is other.
