@@ -1,4 +1,6 @@
 -- The lemmas of this crate.
 pub mod Lists
+pub mod OneState
+pub mod Pieces
 pub mod Sums
 pub mod Walks

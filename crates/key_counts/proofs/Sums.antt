@@ -16,22 +16,11 @@ same-counts one other keys siblings dead_keys value_bytes =
     ∙ ap (λ n. made other.keys other.siblings n one.value_bytes) dead_keys
     ∙ ap (λ n. made other.keys other.siblings other.dead_keys n) value_bytes
 
-min-step : (count more rest most : ℕ) → min (min (count + min more most) most + rest) most ≡ min (count + (more + rest)) most
-min-step count more rest most = omega arith
-
 min-more : (count more rest most : ℕ) → min (min (count + more) most + rest) most ≡ min (count + (more + rest)) most
 min-more count more rest most = omega arith
 
 min-none : (count more most : ℕ) → min (count + more) most ≡ min (count + (more + 0)) most
 min-none count more most = omega arith
-
--- a total that stops, with a number more that stops, and the rest
-pub capped-step : (counts more rest : KeyCounts) → capped (plus (capped (plus counts (capped more))) rest) ≡ capped (plus counts (plus more rest))
-capped-step counts more rest = same-counts _ _
-    (min-step counts.keys more.keys rest.keys (2 ^ 64 - 1))
-    (min-step counts.siblings more.siblings rest.siblings (2 ^ 64 - 1))
-    (min-step counts.dead_keys more.dead_keys rest.dead_keys (2 ^ 64 - 1))
-    (min-step counts.value_bytes more.value_bytes rest.value_bytes (2 ^ 64 - 1))
 
 -- a total that stops, and more
 pub capped-more : (counts more rest : KeyCounts) → capped (plus (capped (plus counts more)) rest) ≡ capped (plus counts (plus more rest))
@@ -49,7 +38,8 @@ capped-none counts more = same-counts _ _
     (min-none counts.dead_keys more.dead_keys (2 ^ 64 - 1))
     (min-none counts.value_bytes more.value_bytes (2 ^ 64 - 1))
 
-plus-assoc : (one more rest : KeyCounts) → plus one (plus more rest) ≡ plus (plus one more) rest
+-- numbers in a row
+pub plus-assoc : (one more rest : KeyCounts) → plus one (plus more rest) ≡ plus (plus one more) rest
 plus-assoc one more rest = same-counts _ _ (omega arith) (omega arith) (omega arith) (omega arith)
 
 plus-none : (one : KeyCounts) → plus one no_counts ≡ plus no_counts one
@@ -81,22 +71,39 @@ capped-push weigh all more total is =
 pub min-last : (count most : ℕ) → count ≤ most → min (count + 0) most ≡ count
 min-last count most few = omega (arith, few)
 
-min-twice : (count most : ℕ) → min count most ≡ min (min count most) most
-min-twice count most = omega arith
+-- nothing stops nowhere
+pub capped-nothing : no_counts ≡ capped no_counts
+capped-nothing = same-counts _ _ (omega arith) (omega arith) (omega arith) (omega arith)
 
--- what stopped once stays
-pub capped-twice : (counts all : KeyCounts) → counts ≡ capped all → counts ≡ capped counts
-capped-twice counts all is =
-    is ∙ same-counts _ _ (min-twice all.keys (2 ^ 64 - 1)) (min-twice all.siblings (2 ^ 64 - 1)) (min-twice all.dead_keys (2 ^ 64 - 1)) (min-twice all.value_bytes (2 ^ 64 - 1)) ∙ ap capped (sym is)
+min-both : (one more most : ℕ) → min (min one most + min more most) most ≡ min (one + more) most
+min-both one more most = omega arith
 
-plus-first : (all : KeyCounts) → plus no_counts all ≡ all
+-- two numbers that stop, together
+pub capped-both : (one more : KeyCounts) → capped (plus (capped one) (capped more)) ≡ capped (plus one more)
+capped-both one more = same-counts _ _
+    (min-both one.keys more.keys (2 ^ 64 - 1))
+    (min-both one.siblings more.siblings (2 ^ 64 - 1))
+    (min-both one.dead_keys more.dead_keys (2 ^ 64 - 1))
+    (min-both one.value_bytes more.value_bytes (2 ^ 64 - 1))
+
+min-rest : (one more rest most : ℕ) → min more most ≡ min rest most → min (min one most + more) most ≡ min (one + rest) most
+min-rest one more rest most same = omega (arith, same)
+
+-- one that stops, with more that stops where this does
+pub capped-rest : (one more rest : KeyCounts) → capped more ≡ capped rest → capped (plus (capped one) more) ≡ capped (plus one rest)
+capped-rest one more rest same = same-counts _ _
+    (min-rest one.keys more.keys rest.keys (2 ^ 64 - 1) (ap (λ c. c.keys) same))
+    (min-rest one.siblings more.siblings rest.siblings (2 ^ 64 - 1) (ap (λ c. c.siblings) same))
+    (min-rest one.dead_keys more.dead_keys rest.dead_keys (2 ^ 64 - 1) (ap (λ c. c.dead_keys) same))
+    (min-rest one.value_bytes more.value_bytes rest.value_bytes (2 ^ 64 - 1) (ap (λ c. c.value_bytes) same))
+
+min-end : (one most : ℕ) → min (min one most + 0) most ≡ min one most
+min-end one most = omega arith
+
+-- one that stops, with nothing more
+pub capped-end : (one : KeyCounts) → capped (plus (capped one) no_counts) ≡ capped one
+capped-end one = same-counts _ _
+    (min-end one.keys (2 ^ 64 - 1)) (min-end one.siblings (2 ^ 64 - 1)) (min-end one.dead_keys (2 ^ 64 - 1)) (min-end one.value_bytes (2 ^ 64 - 1))
+
+pub plus-first : (all : KeyCounts) → plus no_counts all ≡ all
 plus-first all = same-counts _ _ (omega arith) (omega arith) (omega arith) (omega arith)
-
-plus-last : (all : KeyCounts) → plus all no_counts ≡ all
-plus-last all = same-counts _ _ (omega arith) (omega arith) (omega arith) (omega arith)
-
-pub capped-first : (counts all : KeyCounts) → counts ≡ no_counts → capped (plus counts all) ≡ capped all
-capped-first counts all is = ap (λ c. capped (plus c all)) is ∙ ap capped (plus-first all)
-
-pub capped-last : (counts : KeyCounts) → counts ≡ capped counts → counts ≡ capped (plus counts no_counts)
-capped-last counts is = is ∙ ap capped (sym (plus-last counts))

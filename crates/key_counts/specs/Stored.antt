@@ -1,10 +1,12 @@
 -- How many keys, siblings, dead keys and bytes of values a vnode stores.
-use Rattle.std.specs.Prelude.{Bool, not, ℕ, length, filter, Option, is_some, if◌then◌else◌}
+use Rattle.std.specs.Prelude.{◌≡◌, ◌++◌, Bool, true, false, not, ℕ, [], length, filter, Option, is_some, if◌then◌else◌}
 use Rattle.std.specs.Option.{option_map_or}
 use Rattle.std.specs.List.{list_any, sum_by}
+use Rattle.riak_msgs.specs.declared.Key.{Key}
 use Rattle.riak_msgs.specs.Contents.{Content}
-use Rattle.vnode_core.specs.Left.{Keys, State, Stored}
+use Rattle.vnode_core.specs.Left.{Keys, State, Stored, keys_behind}
 use Rattle.key_counts.specs.declared.counts.KeyCounts.{KeyCounts}
+use Rattle.key_counts.specs.declared.counts.Stretch.{Stretch}
 use Rattle.key_counts.specs.Sums.{capped}
 
 -- how many siblings a key has, tombstones among them
@@ -35,6 +37,18 @@ counts_of keys = record {
 -- what a vnode stores
 abbrev pub counts_in : State Content → KeyCounts
 counts_in state = capped (counts_of state.keys)
+
+-- the keys that a stretch leaves behind it: none, where it goes to the last one
+abbrev pub keys_left : (is_last : Bool) → (up_to : Option Key) → State Content → Keys
+keys_left true up_to state = []
+keys_left false up_to state = keys_behind up_to state
+
+-- So much is stored in a stretch of keys, which goes from behind one, or from the first, up to one and with it, or to the last: its keys and those that it
+-- leaves behind it are all that there are behind where it begins.
+pub record IsStretch (state : State Content) (behind up_to : Option Key) (stretch : Stretch) : Type 0 where
+  pub keys : Keys
+  pub are : keys_behind behind state ≡ keys ++ keys_left stretch.is_last up_to state
+  pub counted : stretch.counts ≡ capped (counts_of keys)
 
 -- 1 where it is so
 abbrev pub one_if : Bool → ℕ

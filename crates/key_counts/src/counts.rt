@@ -1,11 +1,11 @@
-//! How much a vnode stores, counted key by key.
+//! How much a vnode stores, counted key by key, in stretches.
 
 ghost use Rattle.std.specs.Prelude.{◌≡◌, ◌-◌, ◌^◌, min, IfOk};
 ghost use Rattle.vnode_core.specs.Left.{stored_of};
 ghost use Rattle.vnode_core.specs.Vnodes.{IsSound};
 ghost use Rattle.key_counts.specs.Sums.{capped, no_counts, plus};
-ghost use Rattle.key_counts.specs.Stored.{bytes_of, counts_in, is_dead, one_if, one_key};
-ghost use Rattle.key_counts.specs.Stored.{siblings_of, value_len};
+ghost use Rattle.key_counts.specs.Stored.{bytes_of, is_dead, one_if, one_key};
+ghost use Rattle.key_counts.specs.Stored.{siblings_of, value_len, IsStretch};
 
 use riak_msgs::{Content, Key};
 use std::alloc::{AllocError, Global};
@@ -104,19 +104,41 @@ fn count_key(stored: &StoredClock) -> KeyCounts
     }
 }
 
-/// What a vnode stores, counted key by key. Each key is copied, to go on from it: refused where memory is. It leaves the vnode as it is.
-pub fn count_keys(alloc: Global, vnode: &Vnode) -> Result<KeyCounts, AllocError>
+/// How many keys are counted under one right to read: behind so many others have theirs.
+pub const PIECE_KEYS: usize = 1_000;
+
+/// What was counted of a stretch of keys.
+#[derive(Clone, Copy, Drop)]
+pub struct Stretch {
+    pub counts: KeyCounts,
+    /// Whether it goes to the last key.
+    pub is_last: bool,
+}
+
+/// What a vnode stores behind a key, or from the first where none is given, counted key by key: 1,000 keys, or as many as there are. The key becomes
+/// the last of them. Each is copied, to go on from it: refused where memory is. It leaves the vnode as it is.
+pub(crate) fn count_stretch(
+    alloc: Global,
+    vnode: &Vnode,
+    at: &mut Option<Key>,
+) -> Result<Stretch, AllocError>
     requires { IsSound vnode.now.state }
-    ensures { IfOk result (λ counts. counts ≡ counts_in vnode.now.state) }
+    ensures { IfOk result (IsStretch vnode.now.state at.old at.new) }
 {
     let mut counts = KeyCounts::none();
-    let mut at: Option<Key> = None;
-    loop {
+    for _ in 0..PIECE_KEYS {
         let Some((parts, stored)) = vnode.next_key(given_parts(at.as_ref())) else {
-            return Ok(counts);
+            return Ok(Stretch {
+                counts,
+                is_last: true,
+            });
         };
         let key = parts.to_key(alloc)?;
         counts = counts.plus(count_key(stored));
-        at = Some(key);
+        *at = Some(key);
     }
+    Ok(Stretch {
+        counts,
+        is_last: false,
+    })
 }

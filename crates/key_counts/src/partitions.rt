@@ -1,4 +1,4 @@
-//! What the vnodes of a hand-off's partitions store, each counted at one look.
+//! What the vnodes of a hand-off's partitions store, each counted in pieces.
 
 ghost use Rattle.std.specs.Prelude.{◌≡◌, ◌<◌, ◌^◌, IfOk, Some, slice_get};
 ghost use Rattle.handoff.specs.Sights.{IsOfVnode};
@@ -55,7 +55,7 @@ fn count_fallback<R: Wait>(
     }
 }
 
-/// What the vnodes of a partition store: its primary's, and its fallback's where it has one, each by one look. The index is below the ring's
+/// What the vnodes of a partition store: its primary's, and its fallback's where it has one, each in pieces. The index is below the ring's
 /// size. It waits; memory may be refused.
 pub fn count_partition<R: Wait>(
     rt: &R,
@@ -66,13 +66,13 @@ pub fn count_partition<R: Wait>(
     requires { index < 2 ^ handoff.now.index_bits }
     ensures { IfOk result (IsCountedAt handoff.now index) }
 {
-    // What is copied back between the two looks is then counted at both, and not at neither.
+    // What is copied back between the two counts is then counted at both, and not at neither.
     let fallback = count_fallback(rt, alloc, handoff, index)?;
     let primary = count_at(rt, alloc, primary_gate(handoff, index))?;
     Ok(PartitionCounts { primary, fallback })
 }
 
-/// What the vnodes of each partition store, in their order: one look at each, at a moment of its own, while calls go on. It waits; memory may
+/// What the vnodes of each partition store, in their order, each piece at a moment of its own, while calls go on. It waits; memory may
 /// be refused.
 pub fn count_partitions<R: Wait>(
     rt: &R,

@@ -1,6 +1,7 @@
 //! How much is stored at a partition, before it is diverted, while it is, and behind its return.
 use crate::exchanges::NOTHING_COUNTED;
 use crate::playing::{NEW_SESSION, Session};
+use crate::returns::long::Numbers;
 use crate::returns::{
     Call, Copies, Course, Finish, ONE_PARTITION, PUTS_F_AND_G, PUTS_P, Turn, copies, finishes,
     play_course,
@@ -76,6 +77,52 @@ const COUNTED: Course = Course {
     ],
     ..ONE_PARTITION
 };
+
+/// Deletes of the numbers 999 and 1,000, the last key of a piece and the first of the next: done.
+const DELETES_BESIDE_AN_EDGE: &Session = &Session {
+    requests: b"\0\0\0\x08\x0d\x0a\x01b\x12\x02\x03\xe7\0\0\0\x08\x0d\x0a\x01b\x12\x02\x03\xe8",
+    replies: b"\0\0\0\x01\x0e\0\0\0\x01\x0e",
+    totals: Totals {
+        deletes: 2,
+        ..NOTHING_COUNTED
+    },
+    ..NEW_SESSION
+};
+
+// Puts of the numbers from one to before another, each of two bytes: stored.
+macro_rules! puts {
+    ($first:expr, $end:expr) => {
+        Turn::Call(Call::Puts(Numbers {
+            first: $first,
+            end: $end,
+        }))
+    };
+}
+
+/// A count looks at 1,000 keys at once.
+const EDGES: Course = Course {
+    shows: "keys beside the edges of what is counted at once count once each",
+    turns: &[
+        puts!(0, 999),
+        stores!(999, 999, 0, 1_998),
+        puts!(999, 1_000),
+        stores!(1_000, 1_000, 0, 2_000),
+        puts!(1_000, 1_001),
+        stores!(1_001, 1_001, 0, 2_002),
+        Turn::Serve(DELETES_BESIDE_AN_EDGE),
+        stores!(1_001, 1_001, 2, 1_998),
+        puts!(1_001, 2_000),
+        stores!(2_000, 2_000, 2, 3_996),
+        puts!(2_000, 2_001),
+        stores!(2_001, 2_001, 2, 3_998),
+    ],
+    ..ONE_PARTITION
+};
+
+#[test]
+fn keys_beside_edges_are_counted(rt: HostRuntime) {
+    assert!(rt; play_course(&rt, rt.alloc(), &EDGES), "{}", EDGES.shows);
+}
 
 #[test]
 fn what_is_stored_is_counted(rt: HostRuntime) {
