@@ -112,8 +112,7 @@ impl RepliesBound {
             return is_enough;
         };
         self.is_due = self.is_due || is_enough || before >= MAX_STEPS;
-        slots.take_call(slot)
-            && (self.is_due || (bound.is_reached() && slots.waiting(slot) == 0))
+        slots.take_call(slot) && (self.is_due || (bound.is_reached() && slots.waiting(slot) == 0))
     }
 
     /// Counts what waits of the connection in a slot, behind its turn.

@@ -22,7 +22,7 @@ loop-preserved c =
     let there = ap (λ (o : Option Key). next_entry key_cmp o state.keys) (sym (c.given_parts.ensures ∙ c.as_ref.ensures.value)) in
     let next = there ∙ sym c.in-Some.ensures.next ∙ ap (λ (key : Key). Some (key, stored_of c.in-Some.stored.now)) (sym c.in_ok-key.ensures) in
     walk-next state c.args.at.now c.requires c.loop.counts c.count_key.result c.plus-counts.result c.loop.at c.in_ok-key.key (stored_of c.in-Some.stored.now)
-        c.loop.invariant next c.count_key.ensures c.plus-counts.ensures
+    c.loop.invariant next c.count_key.ensures c.plus-counts.ensures
 
 pub returns : goal.returns
 returns c = walk-stops c.args.vnode.now.state c.args.at.now c.loop.at c.loop.counts c.loop.invariant
