@@ -3,7 +3,7 @@
 //! An actor is one life of a key at one vnode (`specs/Dots`: `actor_cmp`), a dot one write or tombstone of it. A context
 //! is a list of pairs (actor, n), strictly rising by actor, that covers the dots 1 to n of each (`covers`). Bytes that are
 //! given decode to none, to a malformed context or to pairs (`specs/Given`: `context_of`); how pairs are encoded is a
-//! definition of its own (`specs/Contexts`: `encoding_as`), and a law says that the two agree. The bytes have two versions
+//! definition of its own (`specs/Contexts`: `encoding_as`). The bytes have two versions
 //! (`specs/Versions`), which differ in the width of a counter alone: both are read, and the second is written. An
 //! `EpochSource` gives each epoch of a vnode once (`specs/Epochs`: `next_epoch`).
 //!
@@ -17,6 +17,14 @@
 //! let context = Context::read(&bytes)?;               Some: the pair (a, 2)
 //! context.covers(&Dot { actor: a, counter: 2 })       true, and false at the counter 3
 //! ```
+//!
+//! # Proved
+//!
+//! An [`EpochSource`] never gives an epoch twice, and gives none exactly after the greatest.
+//! [`Context::given`] and [`Context::read`] compute what bytes decode to, without memory. What
+//! [`Context::write`] wrote decodes to its pairs again, and nothing else does. By the calls of
+//! `EpochSource` and `Context`; laws `what_is_written_is_read`, `pairs_cover_up_to_their_counters`,
+//! `limits_are_those_of_the_definitions`.
 #![tactic(auto)]
 
 mod actor;

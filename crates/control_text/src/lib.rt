@@ -1,9 +1,9 @@
 //! The text of an operator's console of a serving node: one command a line, and one line for each answer.
 //!
 //! What it means: which lines ask for which command is defined in `specs/Commands` (`AsksFor`), and [`read_command`] reads a line as the
-//! command that it asks for. A line asks for one command ([`a_text_asks_for_one_command`]). The line of an [`Answer`], and of a [`Refusal`],
+//! command that it asks for. The line of an [`Answer`], and of a [`Refusal`],
 //! is defined in `specs/Answers`; each writes its own. What is wrong with a line that asks for none is defined in `specs/Mistakes`
-//! (`IsMistakeIn`), and [`mistake_in`] says it. An answer is one line of printable ASCII ([`an_answer_is_one_line`]).
+//! (`IsMistakeIn`), and [`mistake_in`] says it.
 //!
 //! What it costs: nothing here takes memory. A line is read in a few passes over it.
 //!
@@ -17,6 +17,23 @@
 //! stop                the node stops
 //! dump                                                               refused: no such command; help lists them
 //! ```
+//!
+//! # Proved
+//!
+//! [`read_command`] reads a line exactly as the command that its text asks for, and as none exactly
+//! if it asks for none. What [`mistake_in`] says of such a line is wrong with it. If the writer
+//! takes all of it, each answer's line is written as it is defined. So are the lines of `help` and
+//! of the partitions that are diverted. An answer's text is one line of printable ASCII. By
+//! `read_command`, `mistake_in`, `Answer::write_line`, `Refusal::write_line`, `write_help`, the
+//! calls of `DivertedPartitions`; laws `a_text_asks_for_one_command`, `an_answer_is_one_line`.
+//!
+//! # Tested
+//!
+//! A console keeps each of its answers, and writes what it kept.
+//!
+//! # Open
+//!
+//! What was written if the writer fails.
 #![tactic(auto)]
 
 mod answer;

@@ -1,8 +1,7 @@
 //! Dotted version vector sets: the clock of a key, with its concurrent values.
 //!
 //! A clock means a set of known dots, and those of them that are live, each with its value (`specs/Clocks`: `DotState`).
-//! Its calls are `sync`, `discard` and `event` there, in `specs/Laws` dot by dot. A sync is idempotent, commutative
-//! and associative in what is known and live (`sync_joins`). In code a clock is the module's entries (actor, n, values):
+//! Its calls are `sync`, `discard` and `event` there, in `specs/Laws` dot by dot. In code a clock is the module's entries (actor, n, values):
 //! the dots 1 to n are known, and the values, newest first, have the last of them (`specs/ClockEntries`).
 //!
 //! Known and live dots follow the `dvvset` module of Riak without its anonymous values. Its update first syncs with the pairs of a
@@ -21,6 +20,18 @@
 //! clock.event(b, Some(3))?;                           values: 2, 3; join: (a, 2), (b, 1)
 //! clock.covers(&Dot { actor: a, counter: 1 })         true: it is known, and no longer live
 //! ```
+//!
+//! # Proved
+//!
+//! `sync`, `discard`, `event` and `join` are the set operations on known and live dots. A sync is
+//! idempotent, commutative and associative in what is known and live, and an upper bound. After
+//! `reserve`, `put_ready` or `overwrite_ready` takes no memory. A refusal comes exactly if its
+//! definition says so, and changes nothing. By the calls of `Clock`; laws
+//! `calls_are_set_operations`, `sync_joins`, `discard_of_all_leaves_no_value`.
+//!
+//! # Open
+//!
+//! That `sync_ready` takes no memory.
 #![tactic(auto)]
 
 mod clock;

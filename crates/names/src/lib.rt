@@ -8,9 +8,15 @@
 //! k.to_bytes(alloc)?                              b"k" as a byte string
 //! ```
 //!
-//! A [`ShortName`] is in 16 bytes, is copied as it is and takes no memory. Contracts see the list of its bytes, and its order is that of
-//! byte strings: two compare by their numbers alone, which is a law of its own (`names_are_ordered`). `specs/Merged` says what a map of
+//! A [`ShortName`] is in 16 bytes, is copied as it is and takes no memory. Contracts see the list of its bytes.
+//! `specs/Merged` says what a map of
 //! short names and one of longer ones are together.
+//!
+//! # Proved
+//!
+//! A [`ShortName`] is a name of up to 15 bytes. Two are equal, and in order, as their bytes are:
+//! they compare by their numbers alone. By the calls of `ShortName`, its order and its invariant;
+//! law `names_are_ordered`.
 #![tactic(auto)]
 
 mod short_name;

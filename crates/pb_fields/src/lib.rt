@@ -22,6 +22,14 @@
 //!
 //! Source: the Protocol Buffers documentation, "Encoding", section "Message Structure". The groups of wire types
 //! 3 and 4 are left out.
+//!
+//! # Proved
+//!
+//! [`Fields`] gives the one list of fields that the bytes stand for, or the first fault. After a
+//! fault the list has ended. [`scan`] is the fold of a message's step over that list. What was
+//! written is read again. By `Fields::next`, `scan`, the calls of `FieldOut` and `Output`,
+//! `encoded_len`, `encode_message`, `encode_repeated`; laws `fields_are_one`, `fields_go_on`,
+//! `fields_stop`, `written_is_read`.
 #![tactic(auto)]
 
 mod fault;

@@ -4,9 +4,7 @@
 //! that hold how long the code and the body are, then the code, then the body. A stream of bytes
 //! *splits* into the messages of its frames, each within a limit, and a rest that begins no whole
 //! frame (`Splits`, in `specs/Message.antt`); each stream does so in one way (`every_stream`,
-//! `one_split`). However the stream is cut, a [`Framer`] gives these messages, in their order
-//! (`any_pieces`), `None` just where all were given and nothing is wrong (`none_left`), and a fault
-//! just where a bad length follows (`bad_length`).
+//! `one_split`). A [`Framer`] gives these messages.
 //!
 //! **Cost.** Feeding and taking `n` bytes takes time in proportion to `n`, whatever the pieces and
 //! whenever frames are taken: a byte is copied once when it is fed, and over all calls no more bytes
@@ -26,6 +24,26 @@
 //! feed(61)                    Ok
 //! take()                      the code 9 and the body 61
 //! ```
+//!
+//! # Proved
+//!
+//! However a stream is cut, a [`Framer`] gives the messages of its frames in their order. `None`
+//! comes exactly if all were given and nothing is wrong. `Empty` or `TooLarge` comes exactly if a
+//! bad length follows, and from then on for good. A writer takes at least one of the bytes, from
+//! the first on, and as many as the call reports. If the writer fails or would have to wait,
+//! nothing was written. By `feed`, `take`, `lend`, `give_back`, `rest`, `frame_of`, `header`,
+//! `shrink_empty`, `try_write`, `write_some`, `try_flush`, `flush`; laws `every_stream`,
+//! `one_split`, `any_pieces`, `none_left`, `bad_length`.
+//!
+//! # Tested
+//!
+//! A framer gives a large buffer back. A write or flush that is interrupted is tried again.
+//!
+//! # Open
+//!
+//! - That feeding and taking take time in proportion to the bytes.
+//! - That `reading_len` returns more than 1.
+//! - That a write or flush fails only if the writer does.
 #![tactic(auto)]
 
 mod decode;

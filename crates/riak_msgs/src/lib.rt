@@ -15,7 +15,7 @@
 //!
 //! Each reply, and each request of a client, has one encoding (`reply_body`, `request_body`): fields by rising number,
 //! every varint in its shortest form, a true as 1, and nothing for what is absent or false. [`write_reply`] and
-//! [`write_request`] give it, and what is written is read again ([`replies_are_read_again`], [`requests_are_read_again`]).
+//! [`write_request`] give it.
 //! [`Reply::body_len`] and [`Reply::append_body`] give it in parts, for a frame that is made in one buffer.
 //!
 //! Most clients write requests in this one encoding, with lengths below 16,384. Such a get, put or delete is read straight, field by
@@ -34,6 +34,20 @@
 //!
 //! Sources: the documentation of Riak's Protocol Buffers client API, the messages of `riak_kv.proto` and
 //! `riak.proto`, and the Protocol Buffers encoding.
+//!
+//! # Proved
+//!
+//! [`read_request`] and [`read_reply`] return what a message says, or the first fault that holds.
+//! [`write_reply`] and [`write_request`] give the one encoding. **What was written is read again**:
+//! every reply, and every request whose names have bytes. By `read_request`, `read_reply`,
+//! `write_reply`, `write_request`, `Reply::body_len`, `Reply::append_body`, `Shown::of_content`,
+//! `ShownContent::value`, `ShownContent::details`, `text_of`; laws `messages_say_one`,
+//! `replies_say_one`, `requests_are_read_again`, `replies_are_read_again`, `keys_are_ordered`.
+//!
+//! # Open
+//!
+//! - That a clone of a content shares its bytes.
+//! - That a content that is shown shares its bytes.
 #![tactic(auto)]
 
 mod bucket_type;

@@ -16,6 +16,16 @@
 //! ring 16    1010              index  10
 //! ring 1,024 1010 1001 10      index 678
 //! ```
+//!
+//! # Proved
+//!
+//! The index of a key is the top bits of the SHA-1 digest of its names (`digest_of`), and 0 on a
+//! ring of one partition. Finding it takes no memory. By `Ring::new`, `Ring::size`,
+//! `Ring::index_of`, `Ring::index`, `vnode_id`.
+//!
+//! # Open
+//!
+//! That `sha1` is the standard's function, beyond its own definition: this is trusted.
 #![tactic(auto)]
 
 mod key_digest;

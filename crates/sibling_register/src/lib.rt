@@ -8,9 +8,7 @@
 //! and is held to the same definitions.
 //!
 //! [`PlainRegister`] is the register as a program: a list of all accepted commands, which is never shortened. Beside it
-//! stands an index of the keys, so that a call takes the same time however long the list is, but for a search. Laws of the
-//! definitions: [`values_leave_only_seen`], [`a_context_names_one_sight`], [`counting_is_a_naming`] and
-//! [`answers_stay_legal`].
+//! stands an index of the keys, so that a call takes the same time however long the list is, but for a search.
 //!
 //! ```text
 //! put b/k "v"                    Done
@@ -19,6 +17,18 @@
 //! put b/k "x", context 2         Done                       "x" replaces what its context saw
 //! get b/k                        Shown [3], position 3
 //! ```
+//!
+//! # Proved
+//!
+//! [`PlainRegister`] is the sibling register: it answers each command as the definitions say. A
+//! context of a position settles what a command saw. Counting a key's events is a naming. By
+//! `PlainRegister::ask`, `PlainRegister::value`, `PlainRegister::len`; laws
+//! `values_leave_only_seen`, `counting_is_a_naming`, `a_context_names_one_sight`,
+//! `answers_stay_legal`.
+//!
+//! # Tested
+//!
+//! A call with ample memory succeeds, with every option.
 #![tactic(auto)]
 
 mod command;

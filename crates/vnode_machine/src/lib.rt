@@ -10,8 +10,7 @@
 //! actor here. Commands, copies and closes keep a state sound (`IsSound` in `specs/Sound`, `proofs/Formed`, `proofs/Copying`).
 //!
 //! So a vnode keeps one compact clock a key and forgets it at a reap, and yet behaves as `sibling_register` does, which
-//! keeps every event for good and compares sets of numbers: that is `machine_is_register`, at each history that may have
-//! led to a state (`specs/Registers`, `IsRegisters`). Its proof goes over the history, event by event (`proofs/Steps`):
+//! keeps every event for good and compares sets of numbers (`specs/Registers`, `IsRegisters`). Its proof goes over the history, event by event (`proofs/Steps`):
 //! the live dots of a key are its siblings, one by one, and what an earlier position knew splits them into those that it
 //! had seen and those that came later. So the turns that a vnode takes one after another, refusals for want of memory
 //! among them, are those of a legal history (`runs_are_histories`, `specs/Runs`).
@@ -30,6 +29,16 @@
 //!
 //! This crate has definitions and laws alone: nothing in it runs, so it costs nothing. Definitions of the state compute,
 //! and `proofs/Exchange` and `proofs/Rows` evaluate whole exchanges on them.
+//!
+//! # Proved
+//!
+//! **The vnode machine is the sibling register.** What comes of an ask (`outcome`) is what the
+//! register may give, at every history that may have led to the state. An accepted ask is the
+//! register's next event. After it the history is legal, and the machine's contexts are its naming.
+//! If clients give only contexts that were shown to them for that key, the event saw just what was
+//! there. By laws `machine_is_register`, `runs_are_histories`, `shown_context_is_the_name`,
+//! `no_dot_is_issued_twice`, `dots_are_of_lives`, `values_leave_only_covered`,
+//! `shown_contexts_name_positions`, `first_dead_is_least`.
 #![tactic(auto)]
 
 mod laws;

@@ -17,6 +17,13 @@
 //! len(300)          2
 //! write(300, out)   2, and out begins with ac 02
 //! ```
+//!
+//! # Proved
+//!
+//! [`read`] returns the value and the length of a varint in any encoding. It returns `Short` or
+//! `TooLong` exactly if that fault holds. [`write`] gives the one shortest encoding, which [`read`]
+//! reads back whatever follows it. By `read`, `write`, `len`; laws `varints_are_one`,
+//! `encoding_is_shortest`, `longest_is_that_of_the_definitions`.
 #![tactic(auto)]
 
 mod fault;
