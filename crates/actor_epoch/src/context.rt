@@ -6,7 +6,8 @@ ghost use Rattle.std.specs.List.{list_all};
 ghost use Rattle.actor_epoch.specs.Dots.{covers, counter_in};
 ghost use Rattle.actor_epoch.specs.declared.version.Version.TheVariants.{Two};
 ghost use Rattle.actor_epoch.specs.Entries.{entry_of, entries_of};
-ghost use Rattle.actor_epoch.specs.Contexts.{may_follow, DecodesContext, encoding, is_well_formed, is_rising, is_within_limits, entry_bytes};
+ghost use Rattle.actor_epoch.specs.Contexts.{may_follow, DecodesContext, encoding, is_well_formed};
+ghost use Rattle.actor_epoch.specs.Contexts.{is_rising, is_within_limits, entry_bytes};
 ghost use Rattle.actor_epoch.specs.Given.{context_of, pairs_read, Malformed, Pairs};
 
 use crate::actor::Actor;
@@ -109,8 +110,8 @@ impl<'a> Context<'a> {
         }
     }
 
-    /// What was given as a context: none where there are no bytes, else the context that they are. Refused exactly where
-    /// there are bytes and `read` gives None. Takes no memory.
+    /// What was given as a context: none where there are no bytes, else the context that they are.
+    /// Refused exactly where there are bytes and `read` gives None. Takes no memory.
     #[inline(always)]
     pub fn given(bytes: &'a [u8]) -> Result<Option<Context<'a>>, MalformedContext>
         ensures ok { IfOk result (λ found. context_of bytes.now ≡ option_map Pairs found) }
@@ -191,7 +192,8 @@ impl<'a> Context<'a> {
         Ok(bytes)
     }
 
-    /// The bytes of a pair as a context is written: behind the byte 2 those of each of its pairs stand so. It takes no memory.
+    /// The bytes of a pair as a context is written: behind the byte 2 those of each of its pairs stand
+    /// so. It takes no memory.
     #[inline(always)]
     pub fn pair_bytes(actor: Actor, counter: Counter) -> [u8; 20]
         ensures { result ≡ entry_bytes Two (entry_of (actor, counter)) }

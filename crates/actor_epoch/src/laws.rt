@@ -5,7 +5,8 @@ ghost use Rattle.actor_epoch.specs.declared.dot.Dot.{Dot};
 ghost use Rattle.actor_epoch.specs.declared.version.Version.{Version};
 ghost use Rattle.actor_epoch.specs.Given.{context_of};
 ghost use Rattle.actor_epoch.specs.Limits.{max_epoch, max_counter, max_actors};
-ghost use Rattle.actor_epoch.specs.Laws.{ReadsBack, ReadsWritten, ReadsNoOthers, CoversUpTo, HasItsCounter};
+ghost use Rattle.actor_epoch.specs.Laws.{ReadsBack, ReadsWritten, ReadsNoOthers};
+ghost use Rattle.actor_epoch.specs.Laws.{CoversUpTo, HasItsCounter};
 
 use crate::limits::{MAX_ACTORS, MAX_COUNTER, MAX_EPOCH};
 

@@ -19,8 +19,8 @@ return 3       calls of partition 3 go to its primary again, once all keys are c
 stop           the node ends in order
 ";
 
-/// What is answered to a command that names a partition, or to a line that asks for none. The answer to `totals` is the line of the totals,
-/// and to `stop` nothing is answered.
+/// What is answered to a command that names a partition, or to a line that asks for none. The answer to
+/// `totals` is the line of the totals, and to `stop` nothing is answered.
 #[derive(Clone, Copy, Drop, PartialEq, Eq)]
 pub enum Answer {
     /// The partition of this index is diverted from now on: `diverted 3`.
@@ -40,8 +40,8 @@ pub enum Answer {
     Refused(Refusal),
 }
 
-/// Writes the lines of the answer to `help`, each with its line feed: the commands, and what each does. On an error of the writer a part of
-/// them may have been written. It takes no memory of its own.
+/// Writes the lines of the answer to `help`, each with its line feed: the commands, and what each does.
+/// On an error of the writer a part of them may have been written. It takes no memory of its own.
 pub fn write_help<W: Write>(writer: &mut W) -> io::Result<()>
     ensures lines { OnOk result
         (Appends (W.contents writer.old) (W.contents writer.new) help_lines) }
@@ -57,8 +57,8 @@ fn rest_word(left: bool) -> &'static str
 }
 
 impl Answer {
-    /// Writes the answer's line, its line feed (byte 0a) among it. On an error of the writer a part of it may have been written. It takes no
-    /// memory of its own.
+    /// Writes the answer's line, its line feed (byte 0a) among it. On an error of the writer a part of
+    /// it may have been written. It takes no memory of its own.
     pub fn write_line<W: Write>(self, writer: &mut W) -> io::Result<()>
         ensures line { OnOk result
             (Appends (W.contents writer.old) (W.contents writer.new) (answer_line self)) }

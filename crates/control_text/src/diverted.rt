@@ -13,7 +13,8 @@ use std::marker::Model;
 /// How many partitions are kept: as many as a ring may have.
 const MAX_PARTITIONS: usize = 1_024;
 
-/// Which partitions are diverted, by what was answered so far: those that `diverted P` named, and no `returned P` behind that.
+/// Which partitions are diverted, by what was answered so far: those that `diverted P` named, and no
+/// `returned P` behind that.
 ///
 /// ```text
 /// none yet            diverted now:
@@ -135,8 +136,8 @@ impl DivertedPartitions {
         count_in(&self.are)
     }
 
-    /// Writes the answer to `diverted`: a line of the indices of those that are, in their order. On an error of the writer a part of it may
-    /// have been written. It takes no memory of its own.
+    /// Writes the answer to `diverted`: a line of the indices of those that are, in their order. On an
+    /// error of the writer a part of it may have been written. It takes no memory of its own.
     pub fn write_line<W: Write>(&self, writer: &mut W) -> io::Result<()>
         ensures line { OnOk result
             (Appends (W.contents writer.old) (W.contents writer.new) (diverted_line self.now)) }

@@ -142,11 +142,12 @@ fn mistake_of(text: &[u8]) -> Mistake
     }
 }
 
-/// What is wrong with a line that asks for no command, as [`read_command`](crate::read_command) has found. The line comes without its line
-/// feed, and may end in one carriage return (byte 0d), which doesn't count.
+/// What is wrong with a line that asks for no command, as [`read_command`](crate::read_command) has
+/// found. The line comes without its line feed, and may end in one carriage return (byte 0d), which
+/// doesn't count.
 ///
-/// A blank behind the last word is told first, then a first word that is no command's. Else the first word is one, and what stands behind it
-/// isn't what that takes.
+/// A blank behind the last word is told first, then a first word that is no command's. Else the first
+/// word is one, and what stands behind it isn't what that takes.
 pub fn mistake_in(line: &[u8]) -> Mistake
     ensures is { IsMistakeIn line.now result }
 {

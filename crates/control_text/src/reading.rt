@@ -75,12 +75,13 @@ fn read_text(text: &[u8]) -> Option<Command>
     read_alone(text)
 }
 
-/// The command that a line asks for; none where it asks for none. The line comes without its line feed, and may end in one carriage
-/// return (byte 0d), which doesn't count.
+/// The command that a line asks for; none where it asks for none. The line comes without its line feed,
+/// and may end in one carriage return (byte 0d), which doesn't count.
 ///
-/// A command is `help`, `totals`, `diverted`, `divert P`, `copy P B`, `return P` or `stop`, in lower case, with one space (byte 20) between two words and no
-/// other blank. P is a partition's index from 0 to 65,535, B a number of keys from 1 to 4,294,967,295, each in decimal without sign or
-/// leading zeros. That there is such a partition isn't asked here.
+/// A command is `help`, `totals`, `diverted`, `divert P`, `copy P B`, `return P` or `stop`, in lower
+/// case, with one space (byte 20) between two words and no other blank. P is a partition's index from 0
+/// to 65,535, B a number of keys from 1 to 4,294,967,295, each in decimal without sign or leading zeros.
+/// That there is such a partition isn't asked here.
 pub fn read_command(line: &[u8]) -> Option<Command>
     ensures reads { ReadsCommand line.now result }
 {

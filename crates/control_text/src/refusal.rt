@@ -11,7 +11,8 @@ use std::io::Write;
 /// Why a command wasn't done. A number is the index of the partition that the command named.
 #[derive(Clone, Copy, Drop, PartialEq, Eq)]
 pub enum Refusal {
-    /// The line asks for no command: `refused: ` and what is wrong with it, as in `refused: no such command; help lists them`.
+    /// The line asks for no command: `refused: ` and what is wrong with it, as in
+    /// `refused: no such command; help lists them`.
     BadLine(Mistake),
     /// The line is longer than any command: `refused: the line has more than 64 bytes`.
     LongLine,
@@ -38,8 +39,8 @@ fn write_about<W: Write>(writer: &mut W, partition: u16, what: &str) -> io::Resu
 }
 
 impl Refusal {
-    /// Writes the refusal's line, its line feed (byte 0a) among it. On an error of the writer a part of it may have been written. It takes no
-    /// memory of its own.
+    /// Writes the refusal's line, its line feed (byte 0a) among it. On an error of the writer a part of
+    /// it may have been written. It takes no memory of its own.
     pub fn write_line<W: Write>(self, writer: &mut W) -> io::Result<()>
         ensures line { OnOk result
             (Appends (W.contents writer.old) (W.contents writer.new) (refusal_line self)) }

@@ -1,6 +1,7 @@
 //! A dotted version vector set.
 
-ghost use Rattle.std.specs.Prelude.{◌≡◌, ◌<◌, ◌≤◌, ◌↔◌, [], true, false, length, map, OnOk, OnErr, IfOk, IfErr, None, Some, unwrap_or, nat_le};
+ghost use Rattle.std.specs.Prelude.{◌≡◌, ◌<◌, ◌≤◌, ◌↔◌, [], true, false, length, map, OnOk};
+ghost use Rattle.std.specs.Prelude.{OnErr, IfOk, IfErr, None, Some, unwrap_or, nat_le};
 
 use crate::clone_value::CloneValue;
 use crate::entry::{self, Entries, Entry};
@@ -16,14 +17,16 @@ use std::alloc::{AllocError, Global};
 use std::default::MadeWith;
 use std::marker::Model;
 
-/// The clock of a key, with its concurrent values. Contracts see what it means, the dots that it knows and those of them
-/// that are live, each with its value (`DotState`), and how much it has room for (`Held`).
+/// The clock of a key, with its concurrent values. Contracts see what it means, the dots that it knows
+/// and those of them that are live, each with its value (`DotState`), and how much it has room for
+/// (`Held`).
 ///
-/// A life, at one actor a: new, it knows nothing. `event(a, v)`: it knows the dot (a, 1), live with v. `event(a, w)`, by a
-/// writer that had not seen v: it knows (a, 1) and (a, 2) and shows w, v. A writer that had seen v alone brings the context
-/// (a, 1): `discard` takes v, and `event(a, x)` makes (a, 3) live, so that it shows x, w. A context of all, (a, 3), leaves
-/// no value; the dots stay known, and a sync with an older copy brings none of them back. `overwrite_ready(a, y)`, after
-/// `reserve`, puts y at (a, 4) and leaves nothing else.
+/// A life, at one actor a: new, it knows nothing. `event(a, v)`: it knows the dot (a, 1), live with v.
+/// `event(a, w)`, by a writer that had not seen v: it knows (a, 1) and (a, 2) and shows w, v. A writer
+/// that had seen v alone brings the context (a, 1): `discard` takes v, and `event(a, x)` makes (a, 3)
+/// live, so that it shows x, w. A context of all, (a, 3), leaves no value; the dots stay known, and a
+/// sync with an older copy brings none of them back. `overwrite_ready(a, y)`, after `reserve`, puts y at
+/// (a, 4) and leaves nothing else.
 pub struct Clock<V: MadeWith<Global> + Drop> {
     entries: Entries<V>,
 }
@@ -59,7 +62,9 @@ impl<V: MadeWith<Global> + Drop> Model for Clock<V> {
 impl<V: MadeWith<Global> + Drop> Clock<V> {
     ghost use Rattle.actor_epoch.specs.Dots.{covers, counter_in};
     ghost use Rattle.dvv_set.specs.Clocks.{sync, discard, event};
-    ghost use Rattle.dvv_set.specs.Held.{IsReady, IsSyncReady, IsWithin, IsActorsFull, IsCounterFull, without, pairs_of, actors_after, counter_before, uncovered};
+    ghost use Rattle.dvv_set.specs.Held.{IsReady, IsSyncReady, IsWithin, IsActorsFull};
+    ghost use Rattle.dvv_set.specs.Held.{IsCounterFull, without, pairs_of};
+    ghost use Rattle.dvv_set.specs.Held.{actors_after, counter_before, uncovered};
     ghost use Rattle.dvv_set.specs.Laws.{IsClock};
     ghost use Rattle.dvv_set.specs.References.{referred, with_values};
 
@@ -72,10 +77,10 @@ impl<V: MadeWith<Global> + Drop> Clock<V> {
         }
     }
 
-    /// Takes in what another clock has seen: the set operations of a sync (`calls_are_set_operations`); of a dot that is live
-    /// on both sides the value of the side with the greater counter of its actor, its own where they are equal. Refused,
-    /// with the other clock back, by ActorsFull exactly where both know more than 64 actors, else by NoMemory; never by
-    /// CounterFull.
+    /// Takes in what another clock has seen: the set operations of a sync (`calls_are_set_operations`);
+    /// of a dot that is live on both sides the value of the side with the greater counter of its actor,
+    /// its own where they are equal. Refused, with the other clock back, by ActorsFull exactly where
+    /// both know more than 64 actors, else by NoMemory; never by CounterFull.
     pub fn sync(&mut self, other: Clock<V>) -> Result<(), Rejected<Clock<V>>>
         ensures synced { OnOk result (self.new.meaning ≡ sync self.old.meaning other.meaning) }
         ensures refused { IfErr result (λ refused. (refused.value ≡ other)
@@ -110,8 +115,8 @@ impl<V: MadeWith<Global> + Drop> Clock<V> {
         }
     }
 
-    /// Makes room for a sync with another clock; no value changes. Refused by ActorsFull exactly where both know more than
-    /// 64 actors, else by NoMemory; never by CounterFull.
+    /// Makes room for a sync with another clock; no value changes. Refused by ActorsFull exactly where
+    /// both know more than 64 actors, else by NoMemory; never by CounterFull.
     pub fn reserve_sync(&mut self, other: &Clock<V>) -> Result<(), ClockFault>
         ensures ready { OnOk result (IsSyncReady self.new other.now.meaning) }
         ensures unchanged { self.new.meaning ≡ self.old.meaning }
@@ -126,8 +131,8 @@ impl<V: MadeWith<Global> + Drop> Clock<V> {
         Ok(())
     }
 
-    /// Takes in what another clock has seen, as `sync` does, in the room that `reserve_sync` made: it takes no memory and
-    /// succeeds.
+    /// Takes in what another clock has seen, as `sync` does, in the room that `reserve_sync` made: it
+    /// takes no memory and succeeds.
     pub fn sync_ready(&mut self, other: Clock<V>)
         requires { IsSyncReady self.old other.meaning }
         ensures { self.new.meaning ≡ sync self.old.meaning other.meaning }
@@ -221,8 +226,8 @@ impl<V: MadeWith<Global> + Drop> Clock<V> {
         room::uncovered(&self.entries, context)
     }
 
-    /// Whether it has so many values, or more, that a context doesn't cover (None: all). Where it has fewer values at all, the
-    /// context isn't looked at.
+    /// Whether it has so many values, or more, that a context doesn't cover (None: all). Where it has
+    /// fewer values at all, the context isn't looked at.
     #[inline(always)]
     pub fn has_uncovered(&self, context: Option<&Context<'_>>, many: u128) -> bool
         ensures { result
@@ -265,8 +270,9 @@ impl<V: MadeWith<Global> + Drop> Clock<V> {
         MAX_ACTORS < self.needed(context, actor).actors
     }
 
-    /// Makes room to put a value for an actor without what a context saw (None: nothing), where what that needs is within
-    /// the limits (a condition); no value changes. Refused where there is no memory.
+    /// Makes room to put a value for an actor without what a context saw (None: nothing), where what
+    /// that needs is within the limits (a condition); no value changes. Refused where there is no
+    /// memory.
     #[inline(always)]
     pub fn reserve(&mut self, context: Option<&Context<'_>>, actor: Actor) -> Result<(), AllocError>
         requires { IsWithin self.old.meaning.known (pairs_of context) actor }
@@ -278,9 +284,9 @@ impl<V: MadeWith<Global> + Drop> Clock<V> {
         entry::reserve_room(&mut self.entries, more)
     }
 
-    /// Makes room to put a value for an actor without what a context saw (None: nothing); no value changes. Refused by
-    /// ActorsFull exactly where more than 64 actors would be known, else by CounterFull exactly where the actor's counter
-    /// is the greatest, else by NoMemory.
+    /// Makes room to put a value for an actor without what a context saw (None: nothing); no value
+    /// changes. Refused by ActorsFull exactly where more than 64 actors would be known, else by
+    /// CounterFull exactly where the actor's counter is the greatest, else by NoMemory.
     pub fn ready(&mut self, context: Option<&Context<'_>>, actor: Actor) -> Result<(), ClockFault>
         ensures ready { OnOk result (IsReady self.new (pairs_of context.entry) actor) }
         ensures unchanged { self.new.meaning ≡ self.old.meaning }
@@ -302,8 +308,8 @@ impl<V: MadeWith<Global> + Drop> Clock<V> {
         }
     }
 
-    /// Puts a value at the next dot of an actor: it is known, and live with the value. Refused as `ready` without a context
-    /// is, with the value back.
+    /// Puts a value at the next dot of an actor: it is known, and live with the value. Refused as
+    /// `ready` without a context is, with the value back.
     pub fn event(&mut self, actor: Actor, value: V) -> Result<(), Rejected<V>>
         ensures put { OnOk result (self.new.meaning ≡ event actor value self.old.meaning) }
         ensures within { OnOk result (length (event actor value self.old.meaning).known
@@ -340,8 +346,9 @@ impl<V: MadeWith<Global> + Drop> Clock<V> {
         entry::put_value(alloc, &mut self.entries, actor, value);
     }
 
-    /// Puts a value at the next dot of an actor, in place of all values, in the room that `ready` or `reserve` made without
-    /// a context: what it knew is known, and the value alone is live. It takes no memory and succeeds.
+    /// Puts a value at the next dot of an actor, in place of all values, in the room that `ready` or
+    /// `reserve` made without a context: what it knew is known, and the value alone is live. It takes no
+    /// memory and succeeds.
     pub fn overwrite_ready(&mut self, actor: Actor, value: V)
         requires { IsReady self.old None actor }
         ensures { self.new.meaning

@@ -1,6 +1,7 @@
 //! The entry of one actor, and lists of entries that strictly rise by actor.
 
-ghost use Rattle.std.specs.Prelude.{◌≡◌, ◌≤◌, ◌<◌, ◌∷◌, ◌+◌, T, IsTrue, length, map, take, is_some, [], Some, IfOk, OnOk};
+ghost use Rattle.std.specs.Prelude.{◌≡◌, ◌≤◌, ◌<◌, ◌∷◌, ◌+◌, T, IsTrue, length};
+ghost use Rattle.std.specs.Prelude.{map, take, is_some, [], Some, IfOk, OnOk};
 ghost use Rattle.std.specs.declared.cmp.Ordering.TheVariants.{Less};
 ghost use Rattle.std.specs.FinMap.Entries.{find, put, is_sorted};
 ghost use Rattle.std.specs.List.{list_all};
@@ -8,7 +9,8 @@ ghost use Rattle.actor_epoch.specs.Dots.{actor_cmp};
 ghost use Rattle.dvv_set.specs.ClockEntries.{entry_for, with_value, AreEntries, emptied};
 ghost use Rattle.actor_epoch.specs.declared.Actor.{Actor};
 ghost use Rattle.dvv_set.specs.References.{referred, with_entry};
-ghost use Rattle.dvv_set.specs.Stored.{actor_of, are_below, clock_entry, clock_entries, has_room, search_actor};
+ghost use Rattle.dvv_set.specs.Stored.{actor_of, are_below, clock_entry};
+ghost use Rattle.dvv_set.specs.Stored.{clock_entries, has_room, search_actor};
 
 use crate::clone_value::CloneValue;
 use crate::inline::InlineList;
@@ -42,11 +44,12 @@ impl KnownPair {
 /// The values of an entry: two of them lie in place, since two writers that haven't seen each other leave as many.
 pub(crate) type EntryValues<V> = InlineList<V, 2>;
 
-/// The entries of a clock: one of them lies in place, since a key has one actor until it is forgotten and written by an older context.
+/// The entries of a clock: one of them lies in place, since a key has one actor until it is forgotten
+/// and written by an older context.
 pub(crate) type Entries<V> = InlineList<Entry<V>, 1>;
 
-/// What a clock has seen of one actor: the dots of `pair`, of which the last have `values`, newest first, two of them in
-/// place.
+/// What a clock has seen of one actor: the dots of `pair`, of which the last have `values`, newest
+/// first, two of them in place.
 #[derive(Drop)]
 pub(crate) struct Entry<V> {
     pub(crate) pair: KnownPair,
@@ -263,8 +266,8 @@ pub(crate) fn drop_values<V: MadeWith<Global> + Drop>(entries: &mut Entries<V>)
     }
 }
 
-/// Makes room for more entries, and for one value more in each that is there. Refused where there is no memory; no value
-/// changes, and the room that was got may stay.
+/// Makes room for more entries, and for one value more in each that is there. Refused where there is no
+/// memory; no value changes, and the room that was got may stay.
 #[inline(always)]
 pub(crate) fn reserve_room<V: MadeWith<Global> + Drop>(
     entries: &mut Entries<V>,

@@ -1,6 +1,7 @@
 //! A list with its first items in the value itself.
 
-ghost use Rattle.std.specs.Prelude.{◌≡◌, ◌≤◌, ◌<◌, ◌∷◌, ◌+◌, length, [], ◌++◌, ◌==◌, ◌↔◌, take, IsSome, IfSome, OnOk, get_or};
+ghost use Rattle.std.specs.Prelude.{◌≡◌, ◌≤◌, ◌<◌, ◌∷◌, ◌+◌, length, [], ◌++◌, ◌==◌};
+ghost use Rattle.std.specs.Prelude.{◌↔◌, take, IsSome, IfSome, OnOk, get_or};
 ghost use Rattle.std.specs.List.{insert};
 
 use smallvec::SmallVec;
@@ -9,8 +10,9 @@ use std::default::MadeWith;
 use std::marker::Model;
 use std::ops::DerefSlice;
 
-/// A list that holds up to `N` items in place, and more in an allocation. Contracts see its items, and how many fit into
-/// the room that it has. It has no more than what a clock needs, over the kit's `SmallVec`.
+/// A list that holds up to `N` items in place, and more in an allocation. Contracts see its items, and
+/// how many fit into the room that it has. It has no more than what a clock needs, over the kit's
+/// `SmallVec`.
 pub(crate) struct InlineList<T, const N: usize> {
     content: SmallVec<T, N>,
 }

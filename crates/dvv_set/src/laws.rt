@@ -5,11 +5,12 @@ ghost use Rattle.actor_epoch.specs.declared.Actor.{Actor};
 ghost use Rattle.actor_epoch.specs.declared.Dot.{Dot};
 ghost use Rattle.actor_epoch.specs.Dots.{covers};
 ghost use Rattle.dvv_set.specs.Clocks.{DotState, sync, discard};
-ghost use Rattle.dvv_set.specs.Laws.{IsClock, KnowsItsLive, SameDots, SyncKnows, SyncKeeps, DiscardKnows, DiscardKeeps, EventKnows, EventKeeps};
+ghost use Rattle.dvv_set.specs.Laws.{IsClock, KnowsItsLive, SameDots, SyncKnows, SyncKeeps};
+ghost use Rattle.dvv_set.specs.Laws.{DiscardKnows, DiscardKeeps, EventKnows, EventKeeps};
 
-/// Each call as an operation on sets of dots: a dot is known after a sync where either side knows it, and live where
-/// both have it live, or one has it live and the other doesn't know it; a discard makes the context's dots known and not
-/// live; an event makes one dot more known and live.
+/// Each call as an operation on sets of dots: a dot is known after a sync where either side knows it,
+/// and live where both have it live, or one has it live and the other doesn't know it; a discard makes
+/// the context's dots known and not live; an event makes one dot more known and live.
 pub fn calls_are_set_operations<V>()
     ensures sync_knows { (own other : DotState V) (dot : Dot) → SyncKnows own other dot }
     ensures sync_keeps { (own other : DotState V) (dot : Dot) → SyncKeeps own other dot }

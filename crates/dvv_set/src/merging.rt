@@ -1,11 +1,13 @@
 //! What entries take in from other entries and from the pairs of a context.
 
-ghost use Rattle.std.specs.Prelude.{◌≡◌, ◌≤◌, ◌<◌, ◌+◌, ◌∷◌, List, ℕ, T, IsTrue, length, map, max, take, true, [], Some};
+ghost use Rattle.std.specs.Prelude.{◌≡◌, ◌≤◌, ◌<◌, ◌+◌, ◌∷◌, List, ℕ, T, IsTrue};
+ghost use Rattle.std.specs.Prelude.{length, map, max, take, true, [], Some};
 ghost use Rattle.std.specs.declared.cmp.Ordering.TheVariants.{Less};
 ghost use Rattle.std.specs.FinMap.Entries.{is_sorted};
 ghost use Rattle.std.specs.List.{list_all};
 ghost use Rattle.actor_epoch.specs.Dots.{actor_cmp};
-ghost use Rattle.dvv_set.specs.ClockEntries.{is_entry, merged, merge_entry, merge_all, entries_of_pairs, AreEntries, entries_without};
+ghost use Rattle.dvv_set.specs.ClockEntries.{is_entry, merged, merge_entry, merge_all};
+ghost use Rattle.dvv_set.specs.ClockEntries.{entries_of_pairs, AreEntries, entries_without};
 ghost use Rattle.dvv_set.specs.Soles.{put_after};
 ghost use Rattle.actor_epoch.specs.Contexts.{is_well_formed};
 ghost use Rattle.actor_epoch.specs.declared.Actor.{Actor};
@@ -105,8 +107,8 @@ fn is_all_seen<V>(entry: &Entry<V>, seen: Counter) -> bool
     entry.pair.counter == seen && entry.values.len() == 1
 }
 
-/// Puts a value in front of the others of the one entry that there is, with its next counter, and drops those up to a counter
-/// that was seen; the entry has room for one more.
+/// Puts a value in front of the others of the one entry that there is, with its next counter, and drops
+/// those up to a counter that was seen; the entry has room for one more.
 #[inline(always)]
 pub(crate) fn put_sole<V: MadeWith<Global> + Drop>(
     entries: &mut Entries<V>,
@@ -150,7 +152,8 @@ fn pair_entry<V: MadeWith<Global> + Drop>(alloc: Global, actor: Actor, counter: 
     }
 }
 
-/// Merges a pair into entries, as `merge_entry` does an entry without values; one is made only where its actor has none.
+/// Merges a pair into entries, as `merge_entry` does an entry without values; one is made only where its
+/// actor has none.
 #[inline(always)]
 fn merge_pair<V: MadeWith<Global> + Drop>(
     alloc: Global,

@@ -1,13 +1,15 @@
 //! What a change of a clock needs: how many actors are new, and room for them.
 
-ghost use Rattle.std.specs.Prelude.{◌≡◌, ◌≤◌, ◌<◌, ◌+◌, ◌-◌, List, [], IsTrue, length, min, max, unwrap_or, ◌↔◌, OnOk, IfErr, IfSome, Some, T};
+ghost use Rattle.std.specs.Prelude.{◌≡◌, ◌≤◌, ◌<◌, ◌+◌, ◌-◌, List, [], IsTrue, length, min};
+ghost use Rattle.std.specs.Prelude.{max, unwrap_or, ◌↔◌, OnOk, IfErr, IfSome, Some, T};
 ghost use Rattle.std.specs.FinMap.Entries.{is_sorted};
 ghost use Rattle.actor_epoch.specs.declared.Actor.{Actor};
 ghost use Rattle.actor_epoch.specs.declared.Dot.{Dot};
 ghost use Rattle.actor_epoch.specs.Contexts.{is_well_formed};
 ghost use Rattle.actor_epoch.specs.Dots.{counter_in, actor_cmp};
 ghost use Rattle.dvv_set.specs.Held.{pairs_of, actors_after, counter_before};
-ghost use Rattle.dvv_set.specs.ClockEntries.{AreEntries, known_of, entries_of_pairs, count_new, count_uncovered, newer};
+ghost use Rattle.dvv_set.specs.ClockEntries.{AreEntries, known_of, entries_of_pairs};
+ghost use Rattle.dvv_set.specs.ClockEntries.{count_new, count_uncovered, newer};
 ghost use Rattle.dvv_set.specs.Soles.{IsSole};
 ghost use Rattle.dvv_set.specs.Stored.{actor_of, clock_entry, clock_entries};
 
@@ -57,8 +59,8 @@ pub(crate) fn count_new_pairs<V>(entries: &[Entry<V>], pairs: ContextPairs<'_>) 
     new
 }
 
-/// The counter up to which a context has seen the dots of an actor, 0 without one, where the actor alone has an entry and the
-/// context has a pair of no other; None elsewhere. So it is of most writes.
+/// The counter up to which a context has seen the dots of an actor, 0 without one, where the actor alone
+/// has an entry and the context has a pair of no other; None elsewhere. So it is of most writes.
 #[inline(always)]
 pub(crate) fn sole_seen<V>(
     entries: &[Entry<V>],
@@ -109,14 +111,15 @@ fn context_counts<V>(
     }
 }
 
-/// As many actors as can be known after the next event of one, without what a context saw: those of the entries, those of
-/// the context, and one.
+/// As many actors as can be known after the next event of one, without what a context saw: those of the
+/// entries, those of the context, and one.
 #[inline(always)]
 pub(crate) fn most_actors<V>(entries: &[Entry<V>], context: Option<&Context<'_>>) -> usize
     requires entries { AreEntries (clock_entries entries.now) }
     requires few { length entries.now ≤ 64 }
     ensures { (actor : Actor) →
-        actors_after (known_of (clock_entries entries.now)) (pairs_of context.entry) actor ≤ result }
+        actors_after (known_of (clock_entries entries.now)) (pairs_of context.entry) actor
+        ≤ result }
 {
     let given = match context {
         None => 0,
@@ -152,8 +155,9 @@ pub(crate) fn required_room<V>(
     (seen, new)
 }
 
-/// For how many entries more room has to be made for the next event of an actor, without what a context saw: where the actor has an entry,
-/// as most have, for those that the context adds; else for none, where there is room for one more than these.
+/// For how many entries more room has to be made for the next event of an actor, without what a context
+/// saw: where the actor has an entry, as most have, for those that the context adds; else for none,
+/// where there is room for one more than these.
 #[inline(always)]
 pub(crate) fn more_entries<V>(
     entries: &[Entry<V>],
@@ -200,7 +204,8 @@ fn count_new_in<V>(entries: &[Entry<V>], context: Option<&Context<'_>>) -> usize
     }
 }
 
-/// How many values entries have that a context doesn't cover. Each of 64 entries may have as many as there are counters.
+/// How many values entries have that a context doesn't cover. Each of 64 entries may have as many as
+/// there are counters.
 pub(crate) fn uncovered<V>(entries: &[Entry<V>], context: Option<&Context<'_>>) -> u128
     requires { length entries.now ≤ 64 }
     ensures { result ≡ count_uncovered

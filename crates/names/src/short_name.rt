@@ -1,6 +1,7 @@
 //! Names of up to 15 bytes as two numbers.
 
-ghost use Rattle.std.specs.Prelude.{◌≡◌, IfOk, ◌<◌, ◌≤◌, ◌==◌, ◌*◌, ◌+◌, ◌^◌, List, ℕ, length, slice_index, take};
+ghost use Rattle.std.specs.Prelude.{◌≡◌, IfOk, ◌<◌, ◌≤◌, ◌==◌, ◌*◌, ◌+◌, ◌^◌};
+ghost use Rattle.std.specs.Prelude.{List, ℕ, length, slice_index, take};
 ghost use Rattle.std.proofs.Common.{rules};
 ghost use Rattle.std.specs.Cmp.{partial_order_from_own_ties};
 ghost use Rattle.std.specs.Cmp.Lexicographic.{pointwise, slice_cmp};
@@ -15,9 +16,9 @@ use std::alloc::{AllocError, Global};
 use std::cmp::Ordering;
 use std::marker::Model;
 
-/// A name of up to 15 bytes, as two numbers with the first byte highest: the first eight bytes, and the others with the length.
-/// Zeros stand for the bytes that it doesn't have. It is copied as it is, and two compare as their bytes do, by their numbers alone.
-/// Contracts see the list of its bytes.
+/// A name of up to 15 bytes, as two numbers with the first byte highest: the first eight bytes, and the
+/// others with the length. Zeros stand for the bytes that it doesn't have. It is copied as it is, and
+/// two compare as their bytes do, by their numbers alone. Contracts see the list of its bytes.
 #[derive(Clone, Copy)]
 pub struct ShortName {
     high: u64,
@@ -41,7 +42,8 @@ impl Model for ShortName {
 
 /// The law of the order of names of up to 15 bytes, as it is proved.
 pub fn names_are_ordered()
-    ensures { (xs ys : List ℕ) → length xs ≤ 15 → length ys ≤ 15 → ((k : ℕ) → slice_index xs k < 256)
+    ensures { (xs ys : List ℕ) → length xs ≤ 15 → length ys ≤ 15
+        → ((k : ℕ) → slice_index xs k < 256)
         → ((k : ℕ) → slice_index ys k < 256) → slice_cmp nat_cmp xs ys
         ≡ ordering_then (nat_cmp (high_of xs) (high_of ys)) (nat_cmp (low_of xs) (low_of ys)) }
 {}

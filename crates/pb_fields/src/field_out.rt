@@ -1,6 +1,7 @@
 //! Fields at the end of a vector.
 
-ghost use Rattle.std.specs.Prelude.{◌≡◌, ◌+◌, ◌*◌, ◌<◌, ◌≤◌, ◌++◌, OnOk, OnErr, length, take, vec_len, vec_capacity};
+ghost use Rattle.std.specs.Prelude.{◌≡◌, ◌+◌, ◌*◌, ◌<◌, ◌≤◌, ◌++◌, OnOk, OnErr};
+ghost use Rattle.std.specs.Prelude.{length, take, vec_len, vec_capacity};
 ghost use Rattle.wire_varint.specs.Varint.{encoding as varint_encoding};
 ghost use Rattle.pb_fields.specs.Field.{IsNumber};
 ghost use Rattle.pb_fields.specs.Encoding.{bytes_field, bytes_head, varint_field};

@@ -9,16 +9,18 @@
 //! Fields::new(b"\x12\x02b").next()                FieldFault::Short: the value goes past the end
 //! ```
 //!
-//! Bytes stand for a list of fields (`Encodes`) by the grammar alone, and for one list at most. [`Fields`] gives that
-//! list, borrowed, or the first fault of a table (`fault_table`). [`scan`] merges each field into a value, by the value's
-//! step for one field ([`Merge`]): what it did is the fold of that step over the list (`MergesAll`).
+//! Bytes stand for a list of fields (`Encodes`) by the grammar alone, and for one list at most.
+//! [`Fields`] gives that list, borrowed, or the first fault of a table (`fault_table`). [`scan`] merges
+//! each field into a value, by the value's step for one field ([`Merge`]): what it did is the fold of
+//! that step over the list (`MergesAll`).
 //!
 //! A value is a [`Message`] where it is encoded as fields to an [`Output`]: a vector, for which [`FieldOut`] appends a
 //! field in its one encoding (`encoding`), or a [`LengthCounter`]. What was encoded is read again whatever follows it.
 //!
-//! Reading takes no memory, reads a key, a length or a number's bytes once and looks at no other byte of a value; a
-//! field is written with one growth at most. What the fields of a message mean is for its reader to say. What is called for
-//! each field is marked `inline(always)`, a hint to LLVM: its results are wide and would else pass through memory.
+//! Reading takes no memory, reads a key, a length or a number's bytes once and looks at no other byte of
+//! a value; a field is written with one growth at most. What the fields of a message mean is for its
+//! reader to say. What is called for each field is marked `inline(always)`, a hint to LLVM: its results
+//! are wide and would else pass through memory.
 //!
 //! Source: the Protocol Buffers documentation, "Encoding", section "Message Structure". The groups of wire types
 //! 3 and 4 are left out.

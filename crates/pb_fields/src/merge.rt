@@ -9,8 +9,8 @@ use crate::{Field, FieldFault, Fields};
 
 /// A value into which the fields of a message are merged, one after another.
 ///
-/// A message type says what one field does; [`scan`] does so with all of them, in their order. A field of an unknown number, or of
-/// another wire type than its own, changes nothing.
+/// A message type says what one field does; [`scan`] does so with all of them, in their order. A field
+/// of an unknown number, or of another wire type than its own, changes nothing.
 pub trait Merge<'a> {
     /// Why a field is refused, or the bytes are no list of fields.
     type Fault: From<FieldFault>;
@@ -31,8 +31,8 @@ pub trait Merge<'a> {
 
 /// Merges each field of these bytes, in their order.
 ///
-/// Refused by the first fault: where the bytes begin no further field, or where a field is refused. What was merged before it
-/// stays. It takes the time of one walk over the fields, and no memory of its own.
+/// Refused by the first fault: where the bytes begin no further field, or where a field is refused. What
+/// was merged before it stays. It takes the time of one walk over the fields, and no memory of its own.
 pub fn scan<'a, M: Merge<'a>>(bytes: &'a [u8], into: &mut M) -> Result<(), M::Fault>
     ensures ok { OnOk result ((fields : List WireField) × Encodes bytes.now fields
         × MergesAll M.merges into.old fields into.new) }

@@ -5,7 +5,8 @@ ghost use Rattle.std.proofs.Common.{◌∙◌, ap, sym, append_assoc, length-app
 ghost use Rattle.std.proofs.lemmas.List.{append-nil};
 ghost use Rattle.wire_varint.specs.Varint.{encoding as varint_encoding};
 ghost use Rattle.pb_fields.specs.Field.{IsNumber};
-ghost use Rattle.pb_fields.specs.Encoding.{bool_field, bytes_field, bytes_head, varint_field, BeginsMessage};
+ghost use Rattle.pb_fields.specs.Encoding.{bool_field, bytes_field, bytes_head};
+ghost use Rattle.pb_fields.specs.Encoding.{varint_field, BeginsMessage};
 
 use crate::field_out::{FieldOut, append_head, key_of};
 use crate::value::{BYTES, VARINT};
@@ -13,13 +14,15 @@ use std::alloc::AllocError;
 
 /// What fields are encoded to, one behind another.
 ///
-/// A vector holds their bytes. A [`LengthCounter`] holds none and counts them, so that a message's length is known before room is
-/// made for it. Each call is refused only where memory is, or where the count passes the greatest `usize`. The numbers are
-/// those that a field may have, from 1 to [`MAX_FIELD_NUMBER`](crate::MAX_FIELD_NUMBER).
+/// A vector holds their bytes. A [`LengthCounter`] holds none and counts them, so that a message's
+/// length is known before room is made for it. Each call is refused only where memory is, or where the
+/// count passes the greatest `usize`. The numbers are those that a field may have, from 1 to
+/// [`MAX_FIELD_NUMBER`](crate::MAX_FIELD_NUMBER).
 pub trait Output {
     ghost use Rattle.std.specs.Prelude.{◌++◌, List, ℕ, [], IfOk, OnOk};
     ghost use Rattle.pb_fields.specs.Field.{IsNumber};
-    ghost use Rattle.pb_fields.specs.Encoding.{bool_field, bytes_field, varint_field, BeginsMessage};
+    ghost use Rattle.pb_fields.specs.Encoding.{bool_field, bytes_field};
+    ghost use Rattle.pb_fields.specs.Encoding.{varint_field, BeginsMessage};
 
     // The second is the first with the bytes behind it.
     ghost appends: { Self → List ℕ → Self → Type 0 };
@@ -34,8 +37,8 @@ pub trait Output {
         requires { IsNumber number }
         ensures { OnOk result (appends self.old (bytes_field number content.now) self.new) };
 
-    /// Begins the number's field with a message of so many bytes: encodes its key and length. It answers whether the message is
-    /// to be encoded next; a counter has counted it.
+    /// Begins the number's field with a message of so many bytes: encodes its key and length. It answers
+    /// whether the message is to be encoded next; a counter has counted it.
     fn begin_message(&mut self, number: u32, len: usize) -> Result<bool, AllocError>
         requires { IsNumber number }
         ensures { IfOk result (λ follows.

@@ -1,6 +1,7 @@
 //! The encoding of a message as a frame.
 
-ghost use Rattle.std.specs.Prelude.{◌≡◌, ◌<◌, ◌≤◌, ◌++◌, List, ℕ, length, IfOk, IsOk, IsErrOf, IsOkUnless};
+ghost use Rattle.std.specs.Prelude.{◌≡◌, ◌<◌, ◌≤◌, ◌++◌, List, ℕ, length};
+ghost use Rattle.std.specs.Prelude.{IfOk, IsOk, IsErrOf, IsOkUnless};
 ghost use Rattle.pb_frame.specs.Limits.{max_body_len};
 ghost use Rattle.pb_frame.specs.Message.{frame};
 

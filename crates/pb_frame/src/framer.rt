@@ -1,6 +1,7 @@
 //! A stream of frames that is fed in any pieces.
 
-ghost use Rattle.std.specs.Prelude.{◌≡◌, ◌≤◌, ◌<◌, ◌+◌, ◌-◌, ◌++◌, [], length, None, IfSome, IsErrOf, IsOkUnless, OnOk, OnErr, vec_capacity};
+ghost use Rattle.std.specs.Prelude.{◌≡◌, ◌≤◌, ◌<◌, ◌+◌, ◌-◌, ◌++◌, [], length, None, IfSome};
+ghost use Rattle.std.specs.Prelude.{IsErrOf, IsOkUnless, OnOk, OnErr, vec_capacity};
 ghost use Rattle.pb_frame.specs.Message.{given_length};
 
 use crate::decode::{Header, decode_header};
@@ -82,8 +83,8 @@ impl Framer {
         self.bytes.len() - self.start
     }
 
-    /// How many bytes of the frame at the front are still to come, by its four length bytes: 0 where it has come whole, or where these aren't
-    /// all there. Takes no memory.
+    /// How many bytes of the frame at the front are still to come, by its four length bytes: 0 where it
+    /// has come whole, or where these aren't all there. Takes no memory.
     #[tactic(auto, unfolding(crate::specs::Message::given_length))]
     pub fn missing(&self) -> usize
         ensures short { length self.now.rest < 4 → result ≡ 0 }
@@ -122,8 +123,8 @@ impl Framer {
         }
     }
 
-    /// Makes room for so many bytes more, and for no others, where a small buffer is enough, and for all that a frame lacks once a fifth of it has
-    /// come. False where memory is refused for it.
+    /// Makes room for so many bytes more, and for no others, where a small buffer is enough, and for all
+    /// that a frame lacks once a fifth of it has come. False where memory is refused for it.
     fn has_room(&mut self, more: usize) -> bool
         ensures { self.new ≡ self.old }
     {
@@ -146,8 +147,9 @@ impl Framer {
         }
     }
 
-    /// How many of so many bytes are to be read at once: all where they have room in this buffer or in a lent one, else as many as a small
-    /// buffer holds behind what is left, where that is less. So a full node, whose free memory lies in pages, finds room for them.
+    /// How many of so many bytes are to be read at once: all where they have room in this buffer or in a
+    /// lent one, else as many as a small buffer holds behind what is left, where that is less. So a full
+    /// node, whose free memory lies in pages, finds room for them.
     pub fn reading_len(&self, room: &Vec<u8>, len: usize) -> usize
         requires { 0 < len }
         ensures some { 0 < result }
@@ -161,8 +163,9 @@ impl Framer {
         len.min(SMALL - left)
     }
 
-    /// Goes over to a lent buffer where a piece of so many bytes has room there behind what is left, and none in its own: what is left is moved there, and
-    /// the buffers are exchanged. Takes no memory, and the stream stays as it is.
+    /// Goes over to a lent buffer where a piece of so many bytes has room there behind what is left, and
+    /// none in its own: what is left is moved there, and the buffers are exchanged. Takes no memory, and
+    /// the stream stays as it is.
     pub fn lend(&mut self, room: &mut Vec<u8>, more: usize)
         ensures { self.new ≡ self.old }
     {
@@ -184,8 +187,8 @@ impl Framer {
         }
     }
 
-    /// Where nothing is left, gives its buffer back in exchange for a smaller one, where it has at most `most` bytes of memory. Takes none, and the
-    /// stream stays as it is.
+    /// Where nothing is left, gives its buffer back in exchange for a smaller one, where it has at most
+    /// `most` bytes of memory. Takes none, and the stream stays as it is.
     pub fn give_back(&mut self, room: &mut Vec<u8>, most: usize)
         ensures { self.new ≡ self.old }
     {

@@ -31,7 +31,8 @@ pub fn first_messages()
         → (stream : List ℕ) (all some : List CodedMessage) (rest more : List ℕ)
         → Splits limit stream all rest
         → stream ≡ flat_map frame some ++ more → All (FitsLimit limit) some
-        → (later : List CodedMessage) × (all ≡ some ++ later) × (more ≡ flat_map frame later ++ rest) }
+        → (later : List CodedMessage) × (all ≡ some ++ later)
+        × (more ≡ flat_map frame later ++ rest) }
 {}
 
 /// However feeds and takes follow one another, what was fed is the frames that were taken and what

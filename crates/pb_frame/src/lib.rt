@@ -7,10 +7,11 @@
 //! `one_split`). A [`Framer`] gives these messages.
 //!
 //! **Cost.** Feeding and taking `n` bytes takes time in proportion to `n`, whatever the pieces and
-//! whenever frames are taken: a byte is copied once when it is fed, and over all calls no more bytes
-//! are moved than were taken. Taking allocates nothing and copies nothing. What a large frame took is
-//! given back once all was taken: a framer in which nothing is left keeps at most 256 bytes. Whoever feeds many framers may lend each a buffer for as long
-//! as it holds bytes ([`Framer::lend`], [`Framer::give_back`]).
+//! whenever frames are taken: a byte is copied once when it is fed, and over all calls no more bytes are
+//! moved than were taken. Taking allocates nothing and copies nothing. What a large frame took is given
+//! back once all was taken: a framer in which nothing is left keeps at most 256 bytes. Whoever feeds
+//! many framers may lend each a buffer for as long as it holds bytes ([`Framer::lend`],
+//! [`Framer::give_back`]).
 //!
 //! **How it is built.** A buffer, and how much of it was taken: [`Framer::take`] moves that mark
 //! alone, and [`Framer::feed`] moves what is left to the front once it is at most half of the

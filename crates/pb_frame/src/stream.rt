@@ -1,14 +1,16 @@
 //! Bytes to a writer, and how often a reader is read.
 //!
-//! What it means: of the bytes that [`try_write`] and [`write_some`] are given the writer took those that are counted, at least one, from
-//! the first on; where they answer anything else, and in a [`flush`], the writer holds what it held. So whoever adds up the counts of one
-//! call after another knows at each moment how many of the bytes were written.
+//! What it means: of the bytes that [`try_write`] and [`write_some`] are given the writer took those
+//! that are counted, at least one, from the first on; where they answer anything else, and in a
+//! [`flush`], the writer holds what it held. So whoever adds up the counts of one call after another
+//! knows at each moment how many of the bytes were written.
 //!
-//! That is why std's `write_all` isn't used: where it fails, its contract says nothing of what was written, and a session has to say of
-//! each reply whether it was written whole, in part or not at all.
+//! That is why std's `write_all` isn't used: where it fails, its contract says nothing of what was
+//! written, and a session has to say of each reply whether it was written whole, in part or not at all.
 //!
-//! [`try_write`] and [`try_flush`] tell a writer that would have to wait from one that failed; to [`write_some`] and [`flush`] both are a
-//! failure. A call that is interrupted is tried again. What it costs: one call of the writer, but for interruptions, and no memory.
+//! [`try_write`] and [`try_flush`] tell a writer that would have to wait from one that failed; to
+//! [`write_some`] and [`flush`] both are a failure. A call that is interrupted is tried again. What it
+//! costs: one call of the writer, but for interruptions, and no memory.
 //!
 //! ```text
 //! write_some(a writer that takes two bytes, "abc") == Ok(2)              // "ab" was written
@@ -22,7 +24,8 @@ ghost use Rattle.pb_frame.specs.Trying.{WritesSome};
 
 use std::io::{ErrorKind, Write};
 
-/// How often a stream is read by one call at most, 2^32: at that bound a call that reads to the end of its input stops, with a fault.
+/// How often a stream is read by one call at most, 2^32: at that bound a call that reads to the end of
+/// its input stops, with a fault.
 pub const MAX_READS: u64 = 4_294_967_296;
 
 /// How often in a row one write or one flush may be interrupted. The bound lets the loops end, and is never met.
@@ -73,7 +76,8 @@ pub fn try_write<W: Write>(writer: &mut W, bytes: &[u8]) -> Wrote
     Wrote::Failed
 }
 
-/// Has the writer take some of the bytes, at least one. A write that is interrupted is tried again. One that would have to wait has failed.
+/// Has the writer take some of the bytes, at least one. A write that is interrupted is tried again. One
+/// that would have to wait has failed.
 pub fn write_some<W: Write>(writer: &mut W, bytes: &[u8]) -> Result<usize, WriteFailed>
     // At least one byte was written, and the bytes in front of the count, after all that had been.
     ensures some { IfOk result (λ n. (0 < n) × (n ≤ length bytes.now)) }

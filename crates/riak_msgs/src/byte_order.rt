@@ -9,8 +9,9 @@ ghost use Rattle.byteorder.specs.Endian.{big_number};
 use byteorder::{BigEndian, ByteOrder};
 use std::cmp::Ordering;
 
-/// How two byte strings compare, byte by byte; where one begins with the other, the shorter is the lesser. Strings of one length
-/// from 8 to 16, as most keys of a bucket are, are compared where they are asked for, as two numbers.
+/// How two byte strings compare, byte by byte; where one begins with the other, the shorter is the
+/// lesser. Strings of one length from 8 to 16, as most keys of a bucket are, are compared where they are
+/// asked for, as two numbers.
 #[inline(always)]
 pub(crate) fn compare(left: &[u8], right: &[u8]) -> Ordering
     ensures { result ≡ slice_cmp nat_cmp left.now right.now }
@@ -25,7 +26,8 @@ pub(crate) fn compare(left: &[u8], right: &[u8]) -> Ordering
     }
 }
 
-/// The same, where strings of one length with fewer than eight bytes, as most buckets, are compared where they are asked for.
+/// The same, where strings of one length with fewer than eight bytes, as most buckets, are compared
+/// where they are asked for.
 #[inline(always)]
 pub(crate) fn compare_names(left: &[u8], right: &[u8]) -> Ordering
     ensures { result ≡ slice_cmp nat_cmp left.now right.now }

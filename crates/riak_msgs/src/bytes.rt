@@ -13,8 +13,8 @@ use std::alloc::{AllocError, Global};
 use std::cmp::Ordering;
 use std::marker::Model;
 
-/// A byte string of any length, ordered byte by byte. Up to 16 bytes lie in the value itself, more in a place of their own on the
-/// heap. Contracts see the list of its bytes.
+/// A byte string of any length, ordered byte by byte. Up to 16 bytes lie in the value itself, more in a
+/// place of their own on the heap. Contracts see the list of its bytes.
 pub struct Bytes {
     content: SmallVec<u8, 16>,
 }

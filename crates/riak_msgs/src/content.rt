@@ -1,6 +1,7 @@
 //! What is stored under a key.
 
-ghost use Rattle.std.specs.Prelude.{◌≡◌, ◌<◌, ◌^◌, ◌∷◌, ◌++◌, [], Some, length, IfOk, OnOk, IsOkUnless};
+ghost use Rattle.std.specs.Prelude.{◌≡◌, ◌<◌, ◌^◌, ◌∷◌, ◌++◌, [], Some};
+ghost use Rattle.std.specs.Prelude.{length, IfOk, OnOk, IsOkUnless};
 ghost use Rattle.pb_fields.specs.Encoding.{bytes_field};
 ghost use Rattle.riak_msgs.specs.ContentEncoding.{content_message};
 ghost use Rattle.riak_msgs.specs.Details.{content_with, details_message};
@@ -21,9 +22,10 @@ const EMPTY_VALUE: &[u8] = &[10, 0];
 
 /// What a client stores under a key: a value, and its details.
 ///
-/// Kept is its encoding, as a reply has it: the value's field, and behind it those of the details that are there. So a reply takes it
-/// as it is. It lies on the heap and has its owners counted, in any threads: a further owner copies no byte and takes no memory, and
-/// moving a content moves a pointer. Contracts see the record of the value and each detail.
+/// Kept is its encoding, as a reply has it: the value's field, and behind it those of the details that
+/// are there. So a reply takes it as it is. It lies on the heap and has its owners counted, in any
+/// threads: a further owner copies no byte and takes no memory, and moving a content moves a pointer.
+/// Contracts see the record of the value and each detail.
 ///
 /// Source: `RpbContent` of `riak_kv.proto`, without the tag and times that a server writes.
 pub struct Content {
@@ -62,7 +64,8 @@ impl Content {
         Content::with_details(alloc, value, &Details::new(alloc))
     }
 
-    /// A value with these details. It takes two places on the heap: one of the size of its encoding, and one for the count of owners.
+    /// A value with these details. It takes two places on the heap: one of the size of its encoding, and
+    /// one for the count of owners.
     pub fn with_details(
         alloc: Global,
         value: &[u8],
@@ -126,7 +129,8 @@ impl Content {
         }
     }
 
-    /// The details. They take memory only where there are links or pairs, to list them; the time is linear in the encoding's bytes.
+    /// The details. They take memory only where there are links or pairs, to list them; the time is
+    /// linear in the encoding's bytes.
     pub fn details(&self, alloc: Global) -> Result<Details<'_>, MsgFault>
         ensures details { IfOk result (λ details.
             self.now ≡ content_with self.now.value details) }

@@ -1,12 +1,14 @@
 //! What a walk over a content's fields sees, without memory; and the content that is then made of it.
 
-ghost use Rattle.std.specs.Prelude.{◌≡◌, ◌∷◌, ◌||◌, [], false, List, IfOk, IfErr, OnOk, OnErr, is_none, is_some};
+ghost use Rattle.std.specs.Prelude.{◌≡◌, ◌∷◌, ◌||◌, [], false, List, IfOk};
+ghost use Rattle.std.specs.Prelude.{IfErr, OnOk, OnErr, is_none, is_some};
 ghost use Rattle.pb_fields.specs.Field.{IsNumber, WireField, byte_string};
 ghost use Rattle.pb_fields.specs.Message.{Encodes};
 ghost use Rattle.riak_msgs.specs.ContentEncoding.{content_message};
 ghost use Rattle.riak_msgs.specs.Embedded.{ContentFields, StandForContent, content_of, pair_of};
 ghost use Rattle.riak_msgs.specs.SeenContents.{content_in};
-ghost use Rattle.riak_msgs.specs.Seen.{Copies, HasNoParts, HoldsNone, IsSeenOf, RefusesToCopy, Sees};
+ghost use Rattle.riak_msgs.specs.Seen.{Copies, HasNoParts, HoldsNone};
+ghost use Rattle.riak_msgs.specs.Seen.{IsSeenOf, RefusesToCopy, Sees};
 ghost use Rattle.riak_msgs.specs.Seen.{no_fields, merged, scalars_of, with_parts};
 
 use crate::content::Content;
@@ -183,7 +185,8 @@ impl<'a> ContentView<'a> {
         }
     }
 
-    /// What was seen in the bytes of one occurrence, with its links and pairs. They are scanned once more where there are some.
+    /// What was seen in the bytes of one occurrence, with its links and pairs. They are scanned once
+    /// more where there are some.
     pub(crate) fn whole(&self, alloc: Global, bytes: &'a [u8]) -> Result<PartsView<'a>, MsgFault>
         ensures ok { (c : ContentFields) → IsSeenOf self.now c
             → StandForContent (bytes.now ∷ []) c

@@ -6,9 +6,9 @@ use smallvec::SmallVec;
 use std::alloc::{AllocError, Global};
 use std::marker::Model;
 
-/// The bytes of a context, as a client was given them and gives them back; none, where there is no context. Up to 24 bytes lie in the value
-/// itself, and so those of one pair, which most contexts have; more lie in a place of their own on the heap. Contracts see the list of
-/// its bytes.
+/// The bytes of a context, as a client was given them and gives them back; none, where there is no
+/// context. Up to 24 bytes lie in the value itself, and so those of one pair, which most contexts have;
+/// more lie in a place of their own on the heap. Contracts see the list of its bytes.
 pub struct ContextBytes {
     content: SmallVec<u8, 24>,
 }

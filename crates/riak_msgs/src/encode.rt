@@ -1,6 +1,7 @@
 //! Fields that may be absent, and a message behind its code.
 
-ghost use Rattle.std.specs.Prelude.{◌≡◌, ◌∷◌, ◌<◌, ◌^◌, length, IfOk, IsOkUnless, OnOk, option_copied};
+ghost use Rattle.std.specs.Prelude.{◌≡◌, ◌∷◌, ◌<◌, ◌^◌, length, IfOk};
+ghost use Rattle.std.specs.Prelude.{IsOkUnless, OnOk, option_copied};
 ghost use Rattle.pb_fields.specs.Encoding.{optional_field};
 ghost use Rattle.pb_fields.specs.Field.{IsNumber};
 ghost use Rattle.riak_msgs.specs.Encoding.{context_field};

@@ -19,8 +19,8 @@ pub(crate) fn bytes_at<'a>(number: u32, field: Field<'a>) -> Option<&'a [u8]>
     }
 }
 
-/// Keeps the bytes of a field as the last of this number, where it is a byte string of it. (By a place that is written where they
-/// are, so that a walk over fields branches on each field's number once.)
+/// Keeps the bytes of a field as the last of this number, where it is a byte string of it. (By a place
+/// that is written where they are, so that a walk over fields branches on each field's number once.)
 #[inline(always)]
 pub(crate) fn keep_last<'a>(number: u32, field: Field<'a>, last: &mut Option<&'a [u8]>)
     ensures { option_copied last.new

@@ -7,7 +7,8 @@ use pb_fields::{Message, Output};
 use std::alloc::AllocError;
 use std::marker::Model;
 
-/// A key of a content's metadata or indexes, with its value where it has one, borrowed. Contracts see the record of both.
+/// A key of a content's metadata or indexes, with its value where it has one, borrowed. Contracts see
+/// the record of both.
 #[derive(Drop)]
 pub struct Pair<'a> {
     pub key: &'a [u8],

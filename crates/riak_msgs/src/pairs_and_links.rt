@@ -85,7 +85,8 @@ impl<'a> PairView<'a> {
     }
 }
 
-/// Puts the link that these bytes are behind the others. Where they stand for a list of fields, only memory can be refused.
+/// Puts the link that these bytes are behind the others. Where they stand for a list of fields, only
+/// memory can be refused.
 pub(crate) fn push_link<'a>(bytes: &'a [u8], links: &mut Sequence<Link<'a>>) -> Result<(), MsgFault>
     ensures ok { OnOk result ((fields : List WireField) × Encodes bytes.now fields
         × (links.new ≡ links.old ++ link_of fields ∷ [])) }
@@ -103,8 +104,8 @@ pub(crate) fn push_link<'a>(bytes: &'a [u8], links: &mut Sequence<Link<'a>>) -> 
     Ok(())
 }
 
-/// Puts the pair that these bytes are behind the others, if it has a key. Where they stand for a list of fields, only memory
-/// can be refused.
+/// Puts the pair that these bytes are behind the others, if it has a key. Where they stand for a list of
+/// fields, only memory can be refused.
 pub(crate) fn push_pair<'a>(bytes: &'a [u8], pairs: &mut Sequence<Pair<'a>>) -> Result<(), MsgFault>
     ensures ok { OnOk result ((fields : List WireField) × Encodes bytes.now fields
         × (pairs.new ≡ pairs.old ++ filter_map pair_of (fields ∷ []))) }

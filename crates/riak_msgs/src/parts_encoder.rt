@@ -36,7 +36,8 @@ impl PartKind {
     }
 }
 
-/// An encoding, to which the links or pairs of one kind are appended as a walk over the fields of a content's occurrence meets them.
+/// An encoding, to which the links or pairs of one kind are appended as a walk over the fields of a
+/// content's occurrence meets them.
 ///
 /// One is looked at after another, and no list of them is made: a frame of empty links holds half a million of them.
 #[derive(Drop)]
@@ -75,8 +76,8 @@ impl<'a> Merge<'a> for PartsEncoder {
     }
 }
 
-/// Appends the link or pair that these bytes are, a pair if it has a key. Where they stand for a list of fields, only memory can be
-/// refused.
+/// Appends the link or pair that these bytes are, a pair if it has a key. Where they stand for a list of
+/// fields, only memory can be refused.
 #[inline(always)]
 fn append_part(kind: PartKind, bytes: &[u8], out: &mut Vec<u8>) -> Result<(), MsgFault>
     ensures ok { (fields : List WireField) → Encodes bytes.now fields

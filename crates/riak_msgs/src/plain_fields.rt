@@ -1,9 +1,11 @@
 //! Fields of bytes in their one encoding: with a key of one byte, and a length of one or two in its shortest form.
 
-ghost use Rattle.std.specs.Prelude.{◌≡◌, ◌↔◌, ◌<◌, ◌≤◌, true, List, ℕ, Option, length, IfSome, IfNone, IsTrue};
+ghost use Rattle.std.specs.Prelude.{◌≡◌, ◌↔◌, ◌<◌, ◌≤◌, true, List, ℕ};
+ghost use Rattle.std.specs.Prelude.{Option, length, IfSome, IfNone, IsTrue};
 ghost use Rattle.pb_fields.specs.Field.{BeginsWithField};
 ghost use Rattle.riak_msgs.specs.PlainFields.{string_at};
-ghost use Rattle.riak_msgs.specs.PlainFields.{ArePlainDetails, BeginsPlainly, BeginsWithContext, BeginsWithFlag, BeginsWithLen, BeginsWithNames};
+ghost use Rattle.riak_msgs.specs.PlainFields.{ArePlainDetails, BeginsPlainly, BeginsWithContext};
+ghost use Rattle.riak_msgs.specs.PlainFields.{BeginsWithFlag, BeginsWithLen, BeginsWithNames};
 ghost use Rattle.riak_msgs.specs.PlainFields.{BeginsWithOptional, IsPlainContent};
 
 /// The length at the front, where it is below 16,384 and in its shortest form, and what is behind it.
@@ -36,7 +38,8 @@ fn first_len(bytes: &[u8]) -> Option<(usize, &[u8])>
 pub(crate) fn first_bytes(number: u8, bytes: &[u8]) -> Option<(&[u8], &[u8])>
     requires { (1 ≤ number) × (number < 16) }
     ensures some { IfSome result (λ r. BeginsPlainly number bytes.now r.0.now r.1.now) }
-    ensures field { IfSome result (λ r. BeginsWithField bytes.now (string_at number r.0.now) r.1.now) }
+    ensures field { IfSome result (λ r.
+        BeginsWithField bytes.now (string_at number r.0.now) r.1.now) }
     ensures none { IfNone result ((content behind : List ℕ)
         → BeginsPlainly number bytes.now content behind → ⊥) }
 {
@@ -55,7 +58,8 @@ pub(crate) fn first_bytes(number: u8, bytes: &[u8]) -> Option<(&[u8], &[u8])>
     Some(rest.split_at(len))
 }
 
-/// The bytes of a field of this number at the front, where it is plain and has bytes, and what is behind it; none, where it isn't there.
+/// The bytes of a field of this number at the front, where it is plain and has bytes, and what is behind
+/// it; none, where it isn't there.
 #[inline(always)]
 pub(crate) fn first_context(number: u8, bytes: &[u8]) -> (&[u8], &[u8])
     requires { (1 ≤ number) × (number < 16) }
@@ -132,7 +136,8 @@ fn behind_optional(number: u8, bytes: &[u8]) -> &[u8]
     }
 }
 
-/// Whether these are the plain fields of a content type, a character set and a content encoding, as far as they are given.
+/// Whether these are the plain fields of a content type, a character set and a content encoding, as far
+/// as they are given.
 fn are_details(bytes: &[u8]) -> bool
     ensures { IsTrue result ↔ ArePlainDetails bytes.now }
 {

@@ -14,7 +14,8 @@ use crate::put::PutAsk;
 use crate::read_put::PutFlags;
 use std::alloc::{AllocError, Global};
 
-/// What a put in the plain form says, borrowed from its body: names, a context, a content that is its own encoding, and the options.
+/// What a put in the plain form says, borrowed from its body: names, a context, a content that is its
+/// own encoding, and the options.
 #[derive(Clone, Copy)]
 pub(crate) struct PlainPut<'a> {
     pub(crate) bucket: &'a [u8],

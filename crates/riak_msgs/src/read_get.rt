@@ -28,8 +28,8 @@ const DELETED_VCLOCK: u32 = 9;
 
 const BUCKET_TYPE: u32 = 13;
 
-/// Decodes the body of a get. Names in the plain form are read straight, and so are the options behind them; a body of any other form is
-/// scanned.
+/// Decodes the body of a get. Names in the plain form are read straight, and so are the options behind
+/// them; a body of any other form is scanned.
 pub(crate) fn read_get(alloc: Global, body: &[u8]) -> Result<Request, MsgFault>
     ensures { Reads 9 body.now result }
 {

@@ -6,7 +6,8 @@ ghost use Rattle.pb_fields.specs.Merging.{Tracks};
 ghost use Rattle.riak_msgs.specs.Reading.{PutFields, EncodesPut, Reads, put_fault, put_of};
 ghost use Rattle.riak_msgs.specs.Seen.{IsSeenOf, scalars_of, with_parts};
 ghost use Rattle.riak_msgs.specs.Parts.{parts_in, parts_message};
-ghost use Rattle.riak_msgs.specs.SeenRequests.{AppendsOccurrence, AreFlagsOf, HasBadContent, HasSeenPut, IsSeenPutOf};
+ghost use Rattle.riak_msgs.specs.SeenRequests.{AppendsOccurrence, AreFlagsOf};
+ghost use Rattle.riak_msgs.specs.SeenRequests.{HasBadContent, HasSeenPut, IsSeenPutOf};
 ghost use Rattle.riak_msgs.specs.SeenRequests.{RefusesOccurrence, no_put};
 
 use crate::content::Content;
@@ -179,8 +180,9 @@ impl<'a> PutView<'a> {
     }
 }
 
-/// The content of a put that was seen to have links or pairs. The body is scanned once more for each of their numbers, since the
-/// encoding has them by their numbers. (By a copy of the view, since a view whose place is handed on stays in memory for each put.)
+/// The content of a put that was seen to have links or pairs. The body is scanned once more for each of
+/// their numbers, since the encoding has them by their numbers. (By a copy of the view, since a view
+/// whose place is handed on stays in memory for each put.)
 fn content_with_parts(
     alloc: Global,
     view: ContentView<'_>,
@@ -199,7 +201,8 @@ fn content_with_parts(
     Ok(Content::of_encoding(encoding)?)
 }
 
-/// Appends the encoding of the links or pairs of one kind, if there are some. The body was seen before, so only memory can be refused.
+/// Appends the encoding of the links or pairs of one kind, if there are some. The body was seen before,
+/// so only memory can be refused.
 fn append_parts(
     are_there: bool,
     kind: PartKind,

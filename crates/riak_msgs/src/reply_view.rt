@@ -5,7 +5,8 @@ ghost use Rattle.pb_fields.specs.Merging.{RefusesNone, Tracks};
 ghost use Rattle.riak_msgs.specs.Embedded.{ContentFields, StandForContent};
 ghost use Rattle.riak_msgs.specs.Seen.{IsSeenOf};
 ghost use Rattle.riak_msgs.specs.ReadingReplies.{ReadsReply};
-ghost use Rattle.riak_msgs.specs.SeenReplies.{DecodesError, ReadsShown, HasSeenReply, IsSeenError, MergesContent, RefusesContent};
+ghost use Rattle.riak_msgs.specs.SeenReplies.{DecodesError, ReadsShown, HasSeenReply};
+ghost use Rattle.riak_msgs.specs.SeenReplies.{IsSeenError, MergesContent, RefusesContent};
 ghost use Rattle.riak_msgs.specs.SeenReplies.{whole_of};
 
 use crate::content_view::ContentView;

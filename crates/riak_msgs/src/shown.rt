@@ -36,8 +36,8 @@ impl Shown {
         }
     }
 
-    /// A content, as a reply shows it, without its value where it is to be bare: one more owner of its bytes. It takes no memory, and is refused
-    /// only where there are 2 to the 63 of them.
+    /// A content, as a reply shows it, without its value where it is to be bare: one more owner of its
+    /// bytes. It takes no memory, and is refused only where there are 2 to the 63 of them.
     #[inline(always)]
     pub fn of_content(content: &Content, is_bare: bool) -> Result<Shown, AllocError>
         ensures { IfOk result (λ s. s ≡ shown is_bare (Some content.now)) }
@@ -62,7 +62,8 @@ impl Message for Shown {
 /// The encoding of a tombstone, as a reply shows it.
 const TOMBSTONE: &[u8] = &[10, 0, 88, 1];
 
-/// A sibling as a reply shows it, encoded from where it lies: a content, or a tombstone where there is none. Nothing of it is copied before.
+/// A sibling as a reply shows it, encoded from where it lies: a content, or a tombstone where there is
+/// none. Nothing of it is copied before.
 #[derive(Clone, Copy)]
 pub struct ShownSibling<'a> {
     pub sibling: &'a Option<Content>,

@@ -15,8 +15,8 @@ use std::marker::Model;
 /// The encoding of an empty value without details.
 const NO_CONTENT: &[u8] = &[10, 0];
 
-/// A content as a reply shows it, with its value or without. It is a further owner of a content's bytes, of which none is copied, also
-/// where the value isn't shown. Contracts see the content that is shown.
+/// A content as a reply shows it, with its value or without. It is a further owner of a content's bytes,
+/// of which none is copied, also where the value isn't shown. Contracts see the content that is shown.
 pub struct ShownContent {
     /// None of an empty value without details.
     whole: Option<Content>,

@@ -8,8 +8,8 @@ ghost use Rattle.sibling_register.specs.Index.{IsAdded, IsUnchanged, below, plac
 use crate::entry::Entry;
 use std::alloc::{AllocError, Global};
 
-/// What is remembered of a key: its siblings, newest first, and the places of its events in the list of accepted commands,
-/// oldest first.
+/// What is remembered of a key: its siblings, newest first, and the places of its events in the list of
+/// accepted commands, oldest first.
 #[derive(Drop)]
 pub(crate) struct KeyIndex {
     pub(crate) siblings: Vec<u64>,
@@ -69,7 +69,8 @@ impl KeyIndex {
         }
     }
 
-    /// Adds an entry of the key, which stands at this place of the list. Refused where memory is, and then nothing changes.
+    /// Adds an entry of the key, which stands at this place of the list. Refused where memory is, and
+    /// then nothing changes.
     pub(crate) fn add<V>(
         &mut self,
         alloc: Global,

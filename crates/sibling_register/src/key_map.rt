@@ -27,7 +27,8 @@ fn add_key(keys: &mut BTreeMap<Key, KeyIndex>, alloc: Global, key: &Key) -> Resu
     }
 }
 
-/// Adds an entry, which stands at this place of the list. Refused where memory is; then nothing that is remembered changes.
+/// Adds an entry, which stands at this place of the list. Refused where memory is; then nothing that is
+/// remembered changes.
 pub(crate) fn note<V>(
     keys: &mut BTreeMap<Key, KeyIndex>,
     alloc: Global,

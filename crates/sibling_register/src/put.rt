@@ -1,11 +1,13 @@
 //! Puts, and the checks that refuse them.
 
-ghost use Rattle.std.specs.Prelude.{◌≡◌, IfOk, Some, false, not, ◌||◌, if◌then◌else◌, nat_eq, unwrap_or};
+ghost use Rattle.std.specs.Prelude.{◌≡◌, IfOk, Some, false, not, ◌||◌};
+ghost use Rattle.std.specs.Prelude.{if◌then◌else◌, nat_eq, unwrap_or};
 ghost use Rattle.std.specs.Option.{option_eq};
 ghost use Rattle.sibling_register.specs.Answers.{AskPut, Shown, Done};
 ghost use Rattle.sibling_register.specs.Plain.{answer_of};
 ghost use Rattle.sibling_register.specs.Plans.{first_check_of};
-ghost use Rattle.sibling_register.specs.Entries.{put_of, has_too_many_by, outcome_of, accepted_put, IsOutcomeOf};
+ghost use Rattle.sibling_register.specs.Entries.{put_of, has_too_many_by, outcome_of};
+ghost use Rattle.sibling_register.specs.Entries.{accepted_put, IsOutcomeOf};
 
 use crate::entry::Entry;
 use crate::key_index::follow;

@@ -1,6 +1,7 @@
 //! The register as a program.
 
-ghost use Rattle.std.specs.Prelude.{◌≡◌, ◌<◌, ◌^◌, ◌+◌, [], ◌∷◌, IfOk, OnOk, OnErr, length, option_copied};
+ghost use Rattle.std.specs.Prelude.{◌≡◌, ◌<◌, ◌^◌, ◌+◌, [], ◌∷◌, IfOk};
+ghost use Rattle.std.specs.Prelude.{OnOk, OnErr, length, option_copied};
 ghost use Rattle.sibling_register.specs.History.{content_of, count_of};
 ghost use Rattle.sibling_register.specs.Siblings.{siblings};
 ghost use Rattle.sibling_register.specs.Counting.{up_to};
@@ -35,8 +36,9 @@ use std::marker::Model;
 /// put y, context 1          Done                            sibling 6: a new life, and the numbers go on
 /// ```
 ///
-/// Beside the list it remembers each key's siblings and where the key's events stand in the list, so that no call reads the
-/// whole list: it takes one search among the keys, one among the key's events, and a step for each sibling.
+/// Beside the list it remembers each key's siblings and where the key's events stand in the list, so
+/// that no call reads the whole list: it takes one search among the keys, one among the key's events,
+/// and a step for each sibling.
 pub struct PlainRegister<V> {
     entries: Vec<Entry<V>>,
     keys: BTreeMap<Key, KeyIndex>,

@@ -9,8 +9,9 @@ pub enum Told {
     /// [`MODIFIED`](crate::MODIFIED), [`NOT_FOUND`](crate::NOT_FOUND) or
     /// [`TOO_MANY_SIBLINGS`](crate::TOO_MANY_SIBLINGS).
     Refused(u8),
-    /// The siblings by their sequence numbers, newest first, where a tombstone's number has no value; the position whose
-    /// context is shown; whether the key is unchanged, so that nothing else is shown; whether contents are shown bare.
+    /// The siblings by their sequence numbers, newest first, where a tombstone's number has no value;
+    /// the position whose context is shown; whether the key is unchanged, so that nothing else is shown;
+    /// whether contents are shown bare.
     Shown {
         siblings: Numbers,
         place: Option<u64>,

@@ -5,8 +5,8 @@
 //! varint that the bytes begin with (`IsVarint`), in any encoding of at most ten bytes; [`write`] gives
 //! the shortest encoding of a value (`encoding`), which `read` reads back whatever follows it.
 //!
-//! Nothing here takes memory. The numbers below 128, nearly all that a wire carries, take one test each way, and are read and
-//! written in the caller's own code (`inline(always)`, a hint to LLVM).
+//! Nothing here takes memory. The numbers below 128, nearly all that a wire carries, take one test each
+//! way, and are read and written in the caller's own code (`inline(always)`, a hint to LLVM).
 //!
 //! Source: the Protocol Buffers documentation, "Encoding", section "Base 128 Varints".
 //!
