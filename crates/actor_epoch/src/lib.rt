@@ -1,16 +1,16 @@
 //! Actors, dots and contexts: who writes a key, which write it was, and what a client has seen.
 //!
-//! An actor is one life of a key at one vnode (`specs/Dots`: `actor_cmp`), a dot one write or tombstone
-//! of it. A context is a list of pairs (actor, n), strictly rising by actor, that covers the dots 1 to n
-//! of each (`covers`). Bytes that are given decode to none, to a malformed context or to pairs
-//! (`specs/Given`: `context_of`); how pairs are encoded is a definition of its own (`specs/Contexts`:
-//! `encoding_as`). The bytes have two versions (`specs/Versions`), which differ in the width of a
-//! counter alone: both are read, and the second is written. An `EpochSource` gives each epoch of a vnode
-//! once (`specs/Epochs`: `next_epoch`).
+//! An actor is one life of a key at one vnode (`specs/Dots`: `actor_cmp`), a dot one write or
+//! tombstone of it. A context is a list of pairs (actor, n), strictly rising by actor, that covers
+//! the dots 1 to n of each (`covers`). Bytes that are given decode to none, to a malformed context
+//! or to pairs (`specs/Given`: `context_of`); how pairs are encoded is a definition of its own
+//! (`specs/Contexts`: `encoding_as`). The bytes have two versions (`specs/Versions`), which differ
+//! in the width of a counter alone: both are read, and the second is written. An `EpochSource`
+//! gives each epoch of a vnode once (`specs/Epochs`: `next_epoch`).
 //!
-//! Reading a context takes no memory and one pass over its bytes; asking whether it covers a dot takes
-//! one more. Writing takes one allocation. A `Context` is a slice of the bytes that it was read from;
-//! nothing is kept beside it.
+//! Reading a context takes no memory and one pass over its bytes; asking whether it covers a dot
+//! takes one more. Writing takes one allocation. A `Context` is a slice of the bytes that it was
+//! read from; nothing is kept beside it.
 //!
 //! ```text
 //! EpochSource::new(1).next()                          Some(1), the epoch of the first life at a vnode

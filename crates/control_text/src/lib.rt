@@ -1,9 +1,10 @@
-//! The text of an operator's console of a serving node: one command a line, and one line for each answer.
+//! The text of an operator's console of a serving node: one command a line, and one line for each
+//! answer.
 //!
 //! What it means: which lines ask for which command is defined in `specs/Commands` (`AsksFor`), and
-//! [`read_command`] reads a line as the command that it asks for. The line of an [`Answer`], and of a
-//! [`Refusal`], is defined in `specs/Answers`; each writes its own. What is wrong with a line that asks
-//! for none is defined in `specs/Mistakes` (`IsMistakeIn`), and [`mistake_in`] says it.
+//! [`read_command`] reads a line as the command that it asks for. The line of an [`Answer`], and of
+//! a [`Refusal`], is defined in `specs/Answers`; each writes its own. What is wrong with a line
+//! that asks for none is defined in `specs/Mistakes` (`IsMistakeIn`), and [`mistake_in`] says it.
 //!
 //! What it costs: nothing here takes memory. A line is read in a few passes over it.
 //!

@@ -1,18 +1,18 @@
 //! Dotted version vector sets: the clock of a key, with its concurrent values.
 //!
 //! A clock means a set of known dots, and those of them that are live, each with its value
-//! (`specs/Clocks`: `DotState`). Its calls are `sync`, `discard` and `event` there, in `specs/Laws` dot
-//! by dot. In code a clock is the module's entries (actor, n, values): the dots 1 to n are known, and
-//! the values, newest first, have the last of them (`specs/ClockEntries`).
+//! (`specs/Clocks`: `DotState`). Its calls are `sync`, `discard` and `event` there, in `specs/Laws`
+//! dot by dot. In code a clock is the module's entries (actor, n, values): the dots 1 to n are
+//! known, and the values, newest first, have the last of them (`specs/ClockEntries`).
 //!
-//! Known and live dots follow the `dvvset` module of Riak without its anonymous values. Its update first
-//! syncs with the pairs of a context, which is a call of its own here, `discard`. An actor is found by a
-//! walk over the entries, 64 at most; an event moves the actor's values once. A clock holds one entry
-//! and each entry two values in place (`InlineList`). It takes memory for more, and, to make room for a
-//! value, for one more in each entry that is full.
+//! Known and live dots follow the `dvvset` module of Riak without its anonymous values. Its update
+//! first syncs with the pairs of a context, which is a call of its own here, `discard`. An actor is
+//! found by a walk over the entries, 64 at most; an event moves the actor's values once. A clock
+//! holds one entry and each entry two values in place (`InlineList`). It takes memory for more,
+//! and, to make room for a value, for one more in each entry that is full.
 //!
-//! Where a change is accepted before it is made, `uncovered`, `is_actors_full` and `needed` say how its
-//! limits stand, `reserve` makes its room and is refused by memory alone, and `put_ready` or
+//! Where a change is accepted before it is made, `uncovered`, `is_actors_full` and `needed` say how
+//! its limits stand, `reserve` makes its room and is refused by memory alone, and `put_ready` or
 //! `overwrite_ready` makes it in that room; a sync is so made by `reserve_sync` and `sync_ready`.
 //!
 //! ```text

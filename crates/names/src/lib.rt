@@ -8,9 +8,8 @@
 //! k.to_bytes(alloc)?                              b"k" as a byte string
 //! ```
 //!
-//! A [`ShortName`] is in 16 bytes, is copied as it is and takes no memory. Contracts see the list of its bytes.
-//! `specs/Merged` says what a map of
-//! short names and one of longer ones are together.
+//! A [`ShortName`] is in 16 bytes, is copied as it is and takes no memory. Contracts see the list
+//! of its bytes. `specs/Merged` says what a map of short names and one of longer ones are together.
 //!
 //! # Proved
 //!

@@ -1,5 +1,5 @@
-//! Fields, the wire form of a Protocol Buffers message: one behind the other, each a key (its number and wire
-//! type in one varint) and a value.
+//! Fields, the wire form of a Protocol Buffers message: one behind the other, each a key (its
+//! number and wire type in one varint) and a value.
 //!
 //! ```text
 //! FieldOut::varint(&mut out, 1, 150)?             appends 08 96 01
@@ -10,28 +10,28 @@
 //! ```
 //!
 //! Bytes stand for a list of fields (`Encodes`) by the grammar alone, and for one list at most.
-//! [`Fields`] gives that list, borrowed, or the first fault of a table (`fault_table`). [`scan`] merges
-//! each field into a value, by the value's step for one field ([`Merge`]): what it did is the fold of
-//! that step over the list (`MergesAll`).
+//! [`Fields`] gives that list, borrowed, or the first fault of a table (`fault_table`). [`scan`]
+//! merges each field into a value, by the value's step for one field ([`Merge`]): what it did is
+//! the fold of that step over the list (`MergesAll`).
 //!
-//! A value is a [`Message`] where it is encoded as fields to an [`Output`]: a vector, for which [`FieldOut`] appends a
-//! field in its one encoding (`encoding`), or a [`LengthCounter`]. What was encoded is read again whatever follows it.
+//! A value is a [`Message`] where it is encoded as fields to an [`Output`]: a vector, for which
+//! [`FieldOut`] appends a field in its one encoding (`encoding`), or a [`LengthCounter`].
 //!
-//! Reading takes no memory, reads a key, a length or a number's bytes once and looks at no other byte of
-//! a value; a field is written with one growth at most. What the fields of a message mean is for its
-//! reader to say. What is called for each field is marked `inline(always)`, a hint to LLVM: its results
-//! are wide and would else pass through memory.
+//! Reading takes no memory, reads a key, a length or a number's bytes once and looks at no other
+//! byte of a value; a field is written with one growth at most. What the fields of a message mean
+//! is for its reader to say. What is called for each field is marked `inline(always)`, a hint to
+//! LLVM: its results are wide and would else pass through memory.
 //!
-//! Source: the Protocol Buffers documentation, "Encoding", section "Message Structure". The groups of wire types
-//! 3 and 4 are left out.
+//! Source: the Protocol Buffers documentation, "Encoding", section "Message Structure". The groups
+//! of wire types 3 and 4 are left out.
 //!
 //! # Proved
 //!
 //! [`Fields`] gives the one list of fields that the bytes stand for, or the first fault. After a
 //! fault the list has ended. [`scan`] is the fold of a message's step over that list. What was
-//! written is read again. By `Fields::next`, `scan`, the calls of `FieldOut` and `Output`,
-//! `encoded_len`, `encode_message`, `encode_repeated`; laws `fields_are_one`, `fields_go_on`,
-//! `fields_stop`, `written_is_read`.
+//! written is read again, whatever follows it. By `Fields::next`, `scan`, the calls of `FieldOut`
+//! and `Output`, `encoded_len`, `encode_message`, `encode_repeated`; laws `fields_are_one`,
+//! `fields_go_on`, `fields_stop`, `written_is_read`.
 #![tactic(auto)]
 
 mod fault;

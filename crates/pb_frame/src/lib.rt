@@ -1,22 +1,23 @@
 //! Messages in frames, on a stream of bytes that is fed in any pieces.
 //!
-//! Riak's Protocol Buffers Client API puts each message into a frame: four bytes, the highest first,
-//! that hold how long the code and the body are, then the code, then the body. A stream of bytes
-//! *splits* into the messages of its frames, each within a limit, and a rest that begins no whole
-//! frame (`Splits`, in `specs/Message.antt`); each stream does so in one way (`every_stream`,
+//! Riak's Protocol Buffers Client API puts each message into a frame: four bytes, the highest
+//! first, that hold how long the code and the body are, then the code, then the body. A stream of
+//! bytes *splits* into the messages of its frames, each within a limit, and a rest that begins no
+//! whole frame (`Splits`, in `specs/Message.antt`); each stream does so in one way (`every_stream`,
 //! `one_split`). A [`Framer`] gives these messages.
 //!
 //! **Cost.** Feeding and taking `n` bytes takes time in proportion to `n`, whatever the pieces and
-//! whenever frames are taken: a byte is copied once when it is fed, and over all calls no more bytes are
-//! moved than were taken. Taking allocates nothing and copies nothing. What a large frame took is given
-//! back once all was taken: a framer in which nothing is left keeps at most 256 bytes. Whoever feeds
-//! many framers may lend each a buffer for as long as it holds bytes ([`Framer::lend`],
-//! [`Framer::give_back`]).
+//! whenever frames are taken: a byte is copied once when it is fed, and over all calls no more
+//! bytes are moved than were taken. Taking allocates nothing and copies nothing. What a large frame
+//! took is given back once all was taken: a framer in which nothing is left keeps at most 256
+//! bytes. Whoever feeds many framers may lend each a buffer for as long as it holds bytes
+//! ([`Framer::lend`], [`Framer::give_back`]).
 //!
 //! **How it is built.** A buffer, and how much of it was taken: [`Framer::take`] moves that mark
 //! alone, and [`Framer::feed`] moves what is left to the front once it is at most half of the
-//! buffer. [`frame_of`] encodes a message, and [`header`] the bytes in front of a body that is written behind it.
-//! [`try_write`] and its kin write frames to a stream, and say how many of their bytes it took.
+//! buffer. [`frame_of`] encodes a message, and [`header`] the bytes in front of a body that is
+//! written behind it. [`try_write`] and its kin write frames to a stream, and say how many of their
+//! bytes it took.
 //!
 //! ```text
 //! Framer::new(alloc, 100)

@@ -9,39 +9,38 @@
 //! ```
 //!
 //! A message decodes to a request, or to a reply, as a function of its list of fields (`Decodes`,
-//! `DecodesReply`): the last occurrence of a scalar, all of a repeated field in their order, the content
-//! of a put merged over its occurrences; everything else is skipped. Where it decodes to none, the
-//! result is the first fault that holds. The result is unique ([`messages_say_one`],
-//! [`replies_say_one`]), and [`read_request`] and [`read_reply`] return it. Quorum and timeout fields
-//! are skipped.
+//! `DecodesReply`): the last occurrence of a scalar, all of a repeated field in their order, the
+//! content of a put merged over its occurrences; everything else is skipped. Where it decodes to
+//! none, the result is the first fault that holds. The result is unique ([`messages_say_one`],
+//! [`replies_say_one`]). Quorum and timeout fields are skipped.
 //!
-//! Each reply, and each request of a client, has one encoding (`reply_body`, `request_body`): fields by rising number,
-//! every varint in its shortest form, a true as 1, and nothing for what is absent or false. [`write_reply`] and
-//! [`write_request`] give it.
-//! [`Reply::body_len`] and [`Reply::append_body`] give it in parts, for a frame that is made in one buffer.
+//! Each reply, and each request of a client, has one encoding (`reply_body`, `request_body`):
+//! fields by rising number, every varint in its shortest form, a true as 1, and nothing for what is
+//! absent or false. [`write_reply`] and [`write_request`] give it. [`Reply::body_len`] and
+//! [`Reply::append_body`] give it in parts, for a frame that is made in one buffer.
 //!
 //! Most clients write requests in this one encoding, with lengths below 16,384. Such a get, put or
-//! delete is read straight, field by field in their order, and its content is copied as it lies. Any
-//! other body is scanned: one scan over the fields as they lie ([`pb_fields::scan`]), in which each
-//! message has its step for one field, and then a copy of each kept field. A put's links and pairs are
-//! scanned once more for each of their numbers of which the first scan met some, and are encoded one
-//! after another, without a list of them. Writing counts the bytes first, takes one buffer of that size,
-//! and writes them once. A content is encoded when it is made, whatever the encoding that it came in,
-//! and kept so: a reply appends its bytes, and counts them by their length. A link or pair is counted
-//! once for its own length and once for that of the content. Reading and writing take time linear in the
-//! bytes. What is called for each field is marked `inline(always)`, a hint to LLVM, since its results
-//! are wide.
+//! delete is read straight, field by field in their order, and its content is copied as it lies.
+//! Any other body is scanned: one scan over the fields as they lie ([`pb_fields::scan`]), in which
+//! each message has its step for one field, and then a copy of each kept field. A put's links and
+//! pairs are scanned once more for each of their numbers of which the first scan met some, and are
+//! encoded one after another, without a list of them. Writing counts the bytes first, takes one
+//! buffer of that size, and writes them once. A content is encoded when it is made, whatever the
+//! encoding that it came in, and kept so: a reply appends its bytes, and counts them by their
+//! length. A link or pair is counted once for its own length and once for that of the content.
+//! Reading and writing take time linear in the bytes. What is called for each field is marked
+//! `inline(always)`, a hint to LLVM, since its results are wide.
 //!
-//! Contracts see [`Bytes`], [`BucketType`] and [`Sequence`] as lists and [`Content`] as a record, so a
-//! request, a reply and all within them are plain data. A content's [`Details`], which most have none
-//! of, are borrowed: from what a content is made of, or from its encoding. A content's encoding is
-//! shared by all who have the content ([`Content::clone`]): a reply copies none of it but into its
-//! frame. A message is written down once, as the fields that it encodes to a [`pb_fields::Output`]. Keys
-//! are ordered by `key_cmp` ([`keys_are_ordered`]). What holds bytes is copied by an inherent `clone`,
-//! which takes the allocator and may be refused.
+//! Contracts see [`Bytes`], [`BucketType`] and [`Sequence`] as lists and [`Content`] as a record,
+//! so a request, a reply and all within them are plain data. A content's [`Details`], which most
+//! have none of, are borrowed: from what a content is made of, or from its encoding. A content's
+//! encoding is shared by all who have the content ([`Content::clone`]): a reply copies none of it
+//! but into its frame. A message is written down once, as the fields that it encodes to a
+//! [`pb_fields::Output`]. Keys are ordered by `key_cmp` ([`keys_are_ordered`]). What holds bytes is
+//! copied by an inherent `clone`, which takes the allocator and may be refused.
 //!
-//! Sources: the documentation of Riak's Protocol Buffers client API, the messages of `riak_kv.proto` and
-//! `riak.proto`, and the Protocol Buffers encoding.
+//! Sources: the documentation of Riak's Protocol Buffers client API, the messages of
+//! `riak_kv.proto` and `riak.proto`, and the Protocol Buffers encoding.
 //!
 //! # Proved
 //!

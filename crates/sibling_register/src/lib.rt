@@ -1,15 +1,17 @@
-//! The sibling register: what a store that keeps siblings answers, as a function of its whole history.
+//! The sibling register: what a store that keeps siblings answers, as a function of its whole
+//! history.
 //!
-//! A history lists what was accepted, newest first (`specs/History`). A key's siblings are its writes
-//! and tombstones that no later accepted command of it saw (`specs/Siblings`). A context names a
-//! position of a key, and a command saw the key's events up to there (`specs/Naming`). So each answer
-//! follows from the history alone, with no counters, epochs or locks (`specs/Answers`); it keeps every
-//! event, reaps too, and is legal where each may follow those before it (`specs/Legal`). The naming of
-//! contexts is a parameter: a store that shows contexts of its own defines what they name, and is held
-//! to the same definitions.
+//! A history lists what was accepted, newest first (`specs/History`). A key's siblings are its
+//! writes and tombstones that no later accepted command of it saw (`specs/Siblings`). A context
+//! names a position of a key, and a command saw the key's events up to there (`specs/Naming`). So
+//! each answer follows from the history alone, with no counters, epochs or locks (`specs/Answers`);
+//! it keeps every event, reaps too, and is legal where each may follow those before it
+//! (`specs/Legal`). The naming of contexts is a parameter: a store that shows contexts of its own
+//! defines what they name, and is held to the same definitions.
 //!
-//! [`PlainRegister`] is the register as a program: a list of all accepted commands, which is never shortened. Beside it
-//! stands an index of the keys, so that a call takes the same time however long the list is, but for a search.
+//! [`PlainRegister`] is the register as a program: a list of all accepted commands, which is never
+//! shortened. Beside it stands an index of the keys, so that a call takes the same time however
+//! long the list is, but for a search.
 //!
 //! ```text
 //! put b/k "v"                    Done

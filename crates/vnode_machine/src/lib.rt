@@ -1,23 +1,23 @@
 //! The vnode machine: what one vnode means, and the law that it is a sibling register.
 //!
 //! A vnode keeps for each stored key an actor and a dotted version vector set (`specs/Machine`,
-//! `State`). A write or tombstone discards what its context covers and then takes the next dot of the
-//! key's actor, a new actor where the key has none; a reap forgets a dead key whole (`apply_operation`).
-//! What it refuses, in which order, is `put_check` and `del_check`; what it shows is `get_reply` and
-//! `put_reply` (`specs/Replies`). What comes of an ask in a state is one function, `outcome`
-//! (`specs/Step`): refused, answered with nothing changed, or accepted, with the next state. The replay
-//! of a list of events is the machine's state after them (`specs/Replay`, `replay`, `HasReplay`). What a
-//! copy from another vnode and a close change is `specs/Copying`; a key that came by copies alone has a
-//! clock and no actor here. Commands, copies and closes keep a state sound (`IsSound` in `specs/Sound`,
-//! `proofs/Formed`, `proofs/Copying`).
+//! `State`). A write or tombstone discards what its context covers and then takes the next dot of
+//! the key's actor, a new actor where the key has none; a reap forgets a dead key whole
+//! (`apply_operation`). What it refuses, in which order, is `put_check` and `del_check`; what it
+//! shows is `get_reply` and `put_reply` (`specs/Replies`). What comes of an ask in a state is one
+//! function, `outcome` (`specs/Step`): refused, answered with nothing changed, or accepted, with
+//! the next state. The replay of a list of events is the machine's state after them
+//! (`specs/Replay`, `replay`, `HasReplay`). What a copy from another vnode and a close change is
+//! `specs/Copying`; a key that came by copies alone has a clock and no actor here. Commands, copies
+//! and closes keep a state sound (`IsSound` in `specs/Sound`, `proofs/Formed`, `proofs/Copying`).
 //!
 //! So a vnode keeps one compact clock a key and forgets it at a reap, and yet behaves as
 //! `sibling_register` does, which keeps every event for good and compares sets of numbers
-//! (`specs/Registers`, `IsRegisters`). Its proof goes over the history, event by event (`proofs/Steps`):
-//! the live dots of a key are its siblings, one by one, and what an earlier position knew splits them
-//! into those that it had seen and those that came later. So the turns that a vnode takes one after
-//! another, refusals for want of memory among them, are those of a legal history (`runs_are_histories`,
-//! `specs/Runs`).
+//! (`specs/Registers`, `IsRegisters`). Its proof goes over the history, event by event
+//! (`proofs/Steps`): the live dots of a key are its siblings, one by one, and what an earlier
+//! position knew splits them into those that it had seen and those that came later. So the turns
+//! that a vnode takes one after another, refusals for want of memory among them, are those of a
+//! legal history (`runs_are_histories`, `specs/Runs`).
 //!
 //! One life of a key at vnode 65536, written as (epoch, counter):
 //!
@@ -31,8 +31,8 @@
 //! put "z" by context (1,1)    live (2,2) "z", (2,1) "y"     knows (1,1), (2,2)
 //! ```
 //!
-//! This crate has definitions and laws alone: nothing in it runs, so it costs nothing. Definitions of
-//! the state compute, and `proofs/Exchange` and `proofs/Rows` evaluate whole exchanges on them.
+//! This crate has definitions and laws alone: nothing in it runs, so it costs nothing. Definitions
+//! of the state compute, and `proofs/Exchange` and `proofs/Rows` evaluate whole exchanges on them.
 //!
 //! # Proved
 //!

@@ -1,12 +1,12 @@
-//! Base 128 varints, the integers of the Protocol Buffers wire encoding: seven bits a byte, the least
-//! significant group first, and the high bit set on every byte but the last.
+//! Base 128 varints, the integers of the Protocol Buffers wire encoding: seven bits a byte, the
+//! least significant group first, and the high bit set on every byte but the last.
 //!
-//! A varint's value is the sum of its groups, modulo 2 to the 64 (`value_of`). [`read`] decodes the value of the
-//! varint that the bytes begin with (`IsVarint`), in any encoding of at most ten bytes; [`write`] gives
-//! the shortest encoding of a value (`encoding`), which `read` reads back whatever follows it.
+//! A varint's value is the sum of its groups, modulo 2 to the 64 (`value_of`). [`read`] decodes the
+//! value of the varint that the bytes begin with (`IsVarint`), in any encoding of at most ten
+//! bytes; [`write`] gives the shortest encoding of a value (`encoding`).
 //!
-//! Nothing here takes memory. The numbers below 128, nearly all that a wire carries, take one test each
-//! way, and are read and written in the caller's own code (`inline(always)`, a hint to LLVM).
+//! Nothing here takes memory. The numbers below 128, nearly all that a wire carries, take one test
+//! each way, and are read and written in the caller's own code (`inline(always)`, a hint to LLVM).
 //!
 //! Source: the Protocol Buffers documentation, "Encoding", section "Base 128 Varints".
 //!
