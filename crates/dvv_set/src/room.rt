@@ -167,8 +167,8 @@ pub(crate) fn more_entries<V>(
 ) -> usize
     requires entries { AreEntries (clock_entries entries.now) }
     requires few { length entries.now ≤ 64 }
-    ensures enough { actors_after (known_of (clock_entries entries.now)) (pairs_of context.entry) actor
-        ≤ max room (length entries.now + result) }
+    ensures enough { actors_after (known_of (clock_entries entries.now)) (pairs_of context.entry)
+        actor ≤ max room (length entries.now + result) }
     ensures few { result ≤ 65 }
     ensures of_form { (ps : List Dot) → pairs_of context.entry ≡ Some ps
         → IsTrue (is_well_formed ps) }
