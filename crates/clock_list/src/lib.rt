@@ -8,9 +8,9 @@
 //! list.forget_dead(&k)                                        Reaped::Kept: it isn't dead
 //! ```
 //!
-//! [`ClockList`] keeps each key with its clock in one list, sorted by key. A call looks through it from the front, and a
-//! new key moves those behind it: n keys cost n. Room for a write is a place in the list, with a copy of the key, and for
-//! a new key its row, which goes in at that place without memory.
+//! [`ClockList`] keeps each key with its clock in one list, sorted by key. A call looks through it from
+//! the front, and a new key moves those behind it: n keys cost n. Room for a write is a place in the
+//! list, with a copy of the key, and for a new key its row, which goes in at that place without memory.
 //!
 //! It is the plain form of [`ClockStore`], for tests to compare others with.
 #![tactic(auto)]

@@ -35,8 +35,8 @@ pub(crate) enum Room {
     New(usize, Row),
 }
 
-/// Keys in their order, each with what is stored of it, and room for one write. Contracts see what a store means; nothing
-/// outside says where it is.
+/// Keys in their order, each with what is stored of it, and room for one write. Contracts see what a
+/// store means; nothing outside says where it is.
 #[derive(Drop)]
 pub struct ClockList {
     rows: Vec<Row>,
@@ -69,7 +69,8 @@ fn make_room(
         (seen_in seen) actor }
     ensures same { map entry_of rows.new.items ≡ map entry_of rows.old.items }
     ensures ok { IfOk result (λ room.
-        HasWriteRoom (contents_in rows.new.items (Some room)) key.now (seen_in seen.entry) actor kind) }
+        HasWriteRoom (contents_in rows.new.items (Some room)) key.now (seen_in seen.entry) actor
+        kind) }
     ensures fits { IfOk result (λ room. IsRowRoom rows.new (Some room)) }
 {
     let _kind = kind; // a list has room for either

@@ -9,7 +9,8 @@ ghost use Rattle.dvv_set.specs.Held.{IsWithin, IsReady, IsSyncReady, pairs_of as
 ghost use Rattle.clock_store.specs.Keys.{empty, stored_of, written, overwritten, synced};
 ghost use Rattle.clock_list.specs.declared.place.Place.TheVariants as places;
 ghost use Rattle.clock_list.specs.Places.{place_in};
-ghost use Rattle.clock_list.specs.Rows.{entry_of, nothing, RowFits, ReadyAt, SyncFitsAt, SyncReadyAt, FitsIn, IsNewRow, IsNewSyncRow};
+ghost use Rattle.clock_list.specs.Rows.{entry_of, nothing, RowFits, ReadyAt, SyncFitsAt};
+ghost use Rattle.clock_list.specs.Rows.{SyncReadyAt, FitsIn, IsNewRow, IsNewSyncRow};
 
 use actor_epoch::{Actor, Context};
 use clock_store::{OwnActor, StoredClock};

@@ -7,8 +7,8 @@ use names::ShortName;
 use riak_msgs::Bytes;
 use std::alloc::{AllocError, Global};
 
-/// A name of up to 15 bytes by its two numbers, or one where its bytes lie. Where a name isn't stored as bytes, there are none to
-/// lend.
+/// A name of up to 15 bytes by its two numbers, or one where its bytes lie. Where a name isn't stored as
+/// bytes, there are none to lend.
 #[derive(Clone, Copy)]
 pub enum Name<'a> {
     Short(ShortName),

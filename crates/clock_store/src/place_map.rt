@@ -9,21 +9,23 @@
 //! map.remove(&k)                        Some(7): b/k has no place, b/j has 8
 //! ```
 //!
-//! A place is a number, as the index of what belongs to a key in a slab. Contracts see a [`PlaceMap`] as the list of all
-//! keys in the order of [`Key`](riak_msgs::Key), each with its place (`AssocList`): they say what is found of each key, and
-//! that the keys ascend.
+//! A place is a number, as the index of what belongs to a key in a slab. Contracts see a [`PlaceMap`] as
+//! the list of all keys in the order of [`Key`](riak_msgs::Key), each with its place (`AssocList`): they
+//! say what is found of each key, and that the keys ascend.
 //!
-//! Names of up to 15 bytes stand as two numbers ([`ShortName`](names::ShortName)), by which a search compares them, and longer ones as
-//! byte strings: buckets and keys have a map for each kind. Both are one in clauses, in the order of bytes.
+//! Names of up to 15 bytes stand as two numbers ([`ShortName`](names::ShortName)), by which a search
+//! compares them, and longer ones as byte strings: buckets and keys have a map for each kind. Both are
+//! one in clauses, in the order of bytes.
 //!
-//! Cost: a call is one search among the bucket types, one among the buckets of that type with names of that kind, and one among such keys
-//! of that bucket, in each of which only the names of that level are compared. An `insert` of a new key is one search more, in the
-//! level that gets a new entry; a `remove` that leaves a bucket or a bucket type without keys is one search more for each. A
-//! `next` is a search in each level, and one more in each that has no key behind, of buckets and keys in both maps.
+//! Cost: a call is one search among the bucket types, one among the buckets of that type with names of
+//! that kind, and one among such keys of that bucket, in each of which only the names of that level are
+//! compared. An `insert` of a new key is one search more, in the level that gets a new entry; a `remove`
+//! that leaves a bucket or a bucket type without keys is one search more for each. A `next` is a search
+//! in each level, and one more in each that has no key behind, of buckets and keys in both maps.
 //!
-//! Memory: the name of a bucket is held once, whatever the number of its keys, and a key takes its own bytes and its place
-//! alone. A bucket has a tree of its own, of one node or more, and so has a bucket type: many buckets of one key each take
-//! more than one map of whole keys would.
+//! Memory: the name of a bucket is held once, whatever the number of its keys, and a key takes its own
+//! bytes and its place alone. A bucket has a tree of its own, of one node or more, and so has a bucket
+//! type: many buckets of one key each take more than one map of whole keys would.
 
 ghost use Rattle.std.specs.Prelude.{◌≡◌, [], OnOk, OnErr, Some, None, true, if◌then◌else◌};
 ghost use Rattle.std.specs.BTreeMap.{is_at};
@@ -34,7 +36,8 @@ ghost use Rattle.names.specs.ShortNames.{is_short};
 ghost use Rattle.clock_store.specs.AssocList.{get, IsOrdered};
 ghost use Rattle.clock_store.specs.Behind.{next_entry};
 ghost use Rattle.clock_store.specs.KeyRefs.{key_found, key_after};
-ghost use Rattle.clock_store.specs.Nested.{bytes_cmp, bucket_key_cmp, bucket_entries, key_of, next_inside, first_behind, AreTypes};
+ghost use Rattle.clock_store.specs.Nested.{bytes_cmp, bucket_key_cmp, bucket_entries, key_of};
+ghost use Rattle.clock_store.specs.Nested.{next_inside, first_behind, AreTypes};
 
 mod behind;
 mod buckets;
@@ -54,8 +57,9 @@ use std::marker::Model;
 
 /// Keys in their order, each with its place.
 ///
-/// A bucket type is held once, a bucket once in its type, and in the bucket the bytes of each key. No bucket type is held
-/// without buckets, and no bucket without keys. Contracts see the list of all keys with their places.
+/// A bucket type is held once, a bucket once in its type, and in the bucket the bytes of each key. No
+/// bucket type is held without buckets, and no bucket without keys. Contracts see the list of all keys
+/// with their places.
 pub struct PlaceMap {
     types: BTreeMap<BucketType, BucketPlaces>,
 }
@@ -167,9 +171,9 @@ impl PlaceMap {
         }
     }
 
-    /// Gives a key a place, which replaces the one that it has. The key's bytes are copied, its bucket and its
-    /// bucket type where they are new. Refused where memory is, and where the place is no number of 32 bits; then each key has the place
-    /// that it had.
+    /// Gives a key a place, which replaces the one that it has. The key's bytes are copied, its bucket
+    /// and its bucket type where they are new. Refused where memory is, and where the place is no number
+    /// of 32 bits; then each key has the place that it had.
     pub fn insert(&mut self, alloc: Global, key: &Key, place: usize) -> Result<(), AllocError>
         ensures inserted { OnOk result ((other : Key) → get key_cmp self.new other
             ≡ (if is_at (key_cmp key.now) other then Some place else get key_cmp self.old other)) }
@@ -195,8 +199,8 @@ impl PlaceMap {
         self.types.clear();
     }
 
-    /// Removes a key, and its bucket and its bucket type where these have no other key; returns the place that it had, if
-    /// it had one. It takes no memory.
+    /// Removes a key, and its bucket and its bucket type where these have no other key; returns the place
+    /// that it had, if it had one. It takes no memory.
     pub fn remove(&mut self, key: &Key) -> Option<usize>
         ensures place { result ≡ get key_cmp self.old key.now }
         ensures removed { (other : Key) → get key_cmp self.new other

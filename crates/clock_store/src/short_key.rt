@@ -16,8 +16,8 @@ use riak_msgs::{BucketType, Bytes, Key};
 use std::cmp::Ordering;
 use std::marker::Model;
 
-/// A key of the default bucket type whose bucket and key have up to 15 bytes each, as four numbers. It is copied as it is, and two
-/// compare by their numbers alone. Contracts see the key.
+/// A key of the default bucket type whose bucket and key have up to 15 bytes each, as four numbers. It is
+/// copied as it is, and two compare by their numbers alone. Contracts see the key.
 #[derive(Clone, Copy)]
 pub(crate) struct ShortKey {
     bucket: ShortName,

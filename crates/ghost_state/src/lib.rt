@@ -1,8 +1,9 @@
 //! Ghost state: values that only clauses read. They have no bytes, and making one does nothing at run time.
 //!
-//! A struct, a change or an event carries one for what its contract has to name and its code never needs: the command that was
-//! prepared, the positions at which a caller published. The model of a [`GhostValue`] is an optional value, that of a [`GhostList`] a list.
-//! They cost no memory, no time and no byte of the struct that they stand in. They may cross threads.
+//! A struct, a change or an event carries one for what its contract has to name and its code never needs:
+//! the command that was prepared, the positions at which a caller published. The model of a
+//! [`GhostValue`] is an optional value, that of a [`GhostList`] a list. They cost no memory, no time and
+//! no byte of the struct that they stand in. They may cross threads.
 //!
 //! ```text
 //! GhostValue::some(&7)                // in clauses Some 7
@@ -12,8 +13,8 @@
 //! size_of::<GhostList<u64>>()         // 0
 //! ```
 //!
-//! How it is built: a list is what was seen of a log (`logbook::Seen`) that is opened with the whole list, has no word, and never grows.
-//! A value is a list of at most one.
+//! How it is built: a list is what was seen of a log (`logbook::Seen`) that is opened with the whole
+//! list, has no word, and never grows. A value is a list of at most one.
 #![tactic(auto)]
 
 mod list;

@@ -19,7 +19,8 @@ use std::alloc::Global;
 use std::sync::Wait;
 use vnode_core::{Ask, KeyCopy, Vnode, VnodeEvent, is_copied};
 
-/// How many keys are looked at under the same rights, but for one: so long puts at the fallback wait for a look that finds all copied.
+/// How many keys are looked at under the same rights, but for one: so long puts at the fallback wait for
+/// a look that finds all copied.
 const STRETCH: u32 = 15;
 
 /// The commands of what a pass has seen.
@@ -51,7 +52,8 @@ pub(crate) enum Step {
     Stuck(Key),
 }
 
-/// Copies the first key behind one, within a stretch of keys, that isn't copied as it is now, while a right to read is held at the fallback.
+/// Copies the first key behind one, within a stretch of keys, that isn't copied as it is now, while a
+/// right to read is held at the fallback.
 pub(crate) fn copy_next<R: Wait>(
     rt: &R,
     alloc: Global,
@@ -117,7 +119,8 @@ fn copy_under<R: Wait>(
     step
 }
 
-/// Looks for a key of the fallback's vnode that isn't copied as it is now, by a right to read at the primary, over a stretch of keys.
+/// Looks for a key of the fallback's vnode that isn't copied as it is now, by a right to read at the
+/// primary, over a stretch of keys.
 fn look_for<'a, R: Wait>(
     rt: &R,
     alloc: Global,
@@ -161,8 +164,8 @@ fn look_under<'a>(
     Ok(found)
 }
 
-/// Copies a key that the fallback holds, under rights to read there and to write at the primary, where it isn't copied by now; of the
-/// fallback's history its pass has seen all.
+/// Copies a key that the fallback holds, under rights to read there and to write at the primary, where it
+/// isn't copied by now; of the fallback's history its pass has seen all.
 fn copy_to(
     writer: &mut WriteRight<'_, Vnode>,
     alloc: Global,

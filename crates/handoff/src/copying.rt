@@ -1,5 +1,6 @@
 //! Copying the keys of a fallback back to its primary.
-ghost use Rattle.std.specs.Prelude.{◌≡◌, ◌+◌, ◌<◌, ◌≤◌, ◌^◌, IfOk, IfErr, OnOk, IfNone, IfSome, [], length};
+ghost use Rattle.std.specs.Prelude.{◌≡◌, ◌+◌, ◌<◌, ◌≤◌, ◌^◌, IfOk, IfErr, OnOk, IfNone, IfSome, []};
+ghost use Rattle.std.specs.Prelude.{length};
 ghost use Rattle.handoff.specs.Copying.{AreCopies, CopiesBack, CountsLeft, RiseBetween, WereTried};
 ghost use Rattle.handoff.specs.Endings.{IsCopyStop};
 ghost use Rattle.handoff.specs.Sights.{IsOfVnode};
@@ -47,7 +48,8 @@ struct Tried {
     last: Key,
 }
 
-/// How many keys were copied, how many were tried, and how many are left; and how many entries of the primary had been seen before.
+/// How many keys were copied, how many were tried, and how many are left; and how many entries of the
+/// primary had been seen before.
 #[derive(Clone, Copy, Drop)]
 struct Counts {
     keys: u32,
@@ -194,8 +196,8 @@ fn copy_some<R: Wait>(
     Ok((keys, tried))
 }
 
-/// Goes on behind a key, until one more is copied or stuck, or at most a stretch of keys; none where no further one is left. So many were
-/// copied and so many tried before.
+/// Goes on behind a key, until one more is copied or stuck, or at most a stretch of keys; none where no
+/// further one is left. So many were copied and so many tried before.
 fn copy_counted<R: Wait>(
     rt: &R,
     alloc: Global,

@@ -25,8 +25,9 @@ pub enum HandoffFault {
     LeftOver(Returned),
     /// Memory was refused.
     NoMemory,
-    /// The history of a gate had gone on past the state that was found, or can have no further event; or a gate took what it doesn't take while
-    /// its partition is diverted, the primary a command or a close, or the fallback a copy or a reap; or what the primary had then wasn't seen.
+    /// The history of a gate had gone on past the state that was found, or can have no further event; or
+    /// a gate took what it doesn't take while its partition is diverted, the primary a command or a
+    /// close, or the fallback a copy or a reap; or what the primary had then wasn't seen.
     GateStopped,
 }
 

@@ -2,7 +2,8 @@
 ghost use Rattle.std.specs.Prelude.{◌≡◌, ◌+◌, ◌≤◌, ◌^◌, IfOk, IfNone, IfSome, IsSome, length};
 ghost use Rattle.vnode_machine.specs.Replay.{IsWithinLimits};
 ghost use Rattle.vnode_core.specs.Events.{IsMadeNew};
-ghost use Rattle.handoff.specs.Partitions.{AreMadeNew, AreNone, BeginsBehind, fallback_id, number_of};
+ghost use Rattle.handoff.specs.Partitions.{AreMadeNew, AreNone, BeginsBehind, fallback_id};
+ghost use Rattle.handoff.specs.Partitions.{number_of};
 ghost use Rattle.handoff.specs.Sights.{ClosedBehind};
 ghost use Rattle.handoff.specs.Started.{IsStartOf, IsTallied};
 
@@ -14,14 +15,17 @@ use vnode_core::{Tally, Vnode};
 /// What lies between the id of a partition's primary and that of its fallback.
 const FALLBACK_IDS: u64 = 32768;
 
-/// What stands beside the primary of a partition that is diverted: a gate round another vnode, and the number of the diversion.
+/// What stands beside the primary of a partition that is diverted: a gate round another vnode, and the
+/// number of the diversion.
 pub struct Fallback {
     pub gate: Gate<Vnode>,
     /// 1 for the partition's first diversion.
     pub diversion: u32,
-    /// The pass by which the fallback before this one was seen closed: of all that it ever took. None for the first diversion.
+    /// The pass by which the fallback before this one was seen closed: of all that it ever took. None for
+    /// the first diversion.
     pub before: Option<Pass<Vnode>>,
-    /// What the primary had when the partition was diverted; none where two attempts to read it failed, and then the diversion can't end.
+    /// What the primary had when the partition was diverted; none where two attempts to read it failed,
+    /// and then the diversion can't end.
     pub start: Option<Start>,
 }
 
@@ -81,8 +85,8 @@ pub(crate) fn no_fallbacks(alloc: Global, size: u16) -> Result<Vec<Option<Fallba
     Ok(fallbacks)
 }
 
-/// What a partition's next diversion begins with: its number, the epoch behind which its fallback's first life begins, and the pass that has
-/// seen the fallback before it closed with that epoch.
+/// What a partition's next diversion begins with: its number, the epoch behind which its fallback's first
+/// life begins, and the pass that has seen the fallback before it closed with that epoch.
 #[derive(Drop)]
 pub(crate) struct NextDiversion {
     pub(crate) number: u32,
@@ -127,9 +131,9 @@ fn last_if_closed(gate: &Gate<Vnode>) -> Option<SeenClosed>
     }
 }
 
-/// What the next diversion of a partition begins with, by the fallback that stands there: the first begins behind no epoch, a later one behind
-/// the last epoch of the closed one, as a pass of that has seen it. None where one attempt doesn't show it closed, or it was the last that
-/// can be numbered.
+/// What the next diversion of a partition begins with, by the fallback that stands there: the first
+/// begins behind no epoch, a later one behind the last epoch of the closed one, as a pass of that has
+/// seen it. None where one attempt doesn't show it closed, or it was the last that can be numbered.
 pub(crate) fn next_diversion(fallback: &Option<Fallback>) -> Option<NextDiversion>
     ensures number { IfSome result (λ next. next.number ≡ number_of fallback.now + 1) }
     ensures begins { IfSome result (λ next.

@@ -38,8 +38,9 @@ fn copy_of(alloc: Global, key: Option<&Key>) -> Result<Option<Key>, AllocError>
     }
 }
 
-/// The first key of the fallback's vnode, behind one or of all, that the primary's hasn't as it is there now, where it is among the
-/// first so many, and one more. Each key on the way is copied, to be found at the primary: refused where memory is.
+/// The first key of the fallback's vnode, behind one or of all, that the primary's hasn't as it is there
+/// now, where it is among the first so many, and one more. Each key on the way is copied, to be found at
+/// the primary: refused where memory is.
 pub(crate) fn next_left<'a>(
     alloc: Global,
     primary: &Vnode,

@@ -1,14 +1,16 @@
 //! The gates of a run, and the fallbacks of partitions that are diverted.
 //!
-//! A [`Handoff`] has a gate (`rw_gate`) round the vnode of each partition of a ring: the partition's primary. A partition may be
-//! diverted. Then a fallback stands beside its primary: a gate round another vnode, which has an id of its own, a history of its
-//! own, and no keys at first. From then on the partition's calls are the fallback's, and what the primary holds stays as it is; so who
-//! answers a call asks [`Handoff::fallback`] first.
+//! A [`Handoff`] has a gate (`rw_gate`) round the vnode of each partition of a ring: the partition's
+//! primary. A partition may be diverted. Then a fallback stands beside its primary: a gate round another
+//! vnode, which has an id of its own, a history of its own, and no keys at first. From then on the
+//! partition's calls are the fallback's, and what the primary holds stays as it is; so who answers a call
+//! asks [`Handoff::fallback`] first.
 //!
-//! While calls go on, [`Handoff::copy_back`] copies the fallback's keys to the primary, each by a sync of the key's two clocks.
-//! [`Handoff::finish_return`] ends the diversion, where each key is copied as it is then: it closes the fallback, which drops its keys and
-//! takes nothing more. Who finds it closed goes to the primary, and there to a state that has as many entries as the close says. The
-//! closed fallback stays where it is until the partition is diverted again.
+//! While calls go on, [`Handoff::copy_back`] copies the fallback's keys to the primary, each by a sync of
+//! the key's two clocks. [`Handoff::finish_return`] ends the diversion, where each key is copied as it is
+//! then: it closes the fallback, which drops its keys and takes nothing more. Who finds it closed goes to
+//! the primary, and there to a state that has as many entries as the close says. The closed fallback
+//! stays where it is until the partition is diverted again.
 //!
 //! ```text
 //! handoff.divert(alloc, 0)?                  the calls of partition 0 are for its fallback; say they put b/j and b/k there
@@ -20,29 +22,36 @@
 //! handoff.divert(alloc, 0)?                  a new fallback, whose epochs begin behind the last one's
 //! ```
 //!
-//! What it means: a diversion puts a new fallback beside a partition that has none or a closed one, under the next number of that
-//! partition (1, 2, ..), and leaves all else as it was (`IsDiverted` in `specs/Partitions`); the gate of each fallback was made round a new
-//! vnode with the id `run * 65536 + 32768 + index` (`IsFallback`). No partition's index reaches 32,768, so no vnode of the run has the id
-//! of another. What a copy back made is said by the passes that it gives back (`CopiesBack` in `specs/Copying`): each entry that it published
-//! at the primary is a copy (`IsCopy`) of what a look showed at the fallback. That these are the copies of which the law of copies
-//! (`copy_joins` of `vnode_core`) says that no sibling is lost or comes again is [`copies_are_true`]. So it is with the end of a diversion
-//! (`EndsDiversion` in `specs/Returning`): the close stands right behind what was looked at, and then each key's siblings at the primary are
-//! the joint ones of all sides ([`returns_join`]).
+//! What it means: a diversion puts a new fallback beside a partition that has none or a closed one, under
+//! the next number of that partition (1, 2, ..), and leaves all else as it was (`IsDiverted` in
+//! `specs/Partitions`); the gate of each fallback was made round a new vnode with the id `run * 65536 +
+//! 32768 + index` (`IsFallback`). No partition's index reaches 32,768, so no vnode of the run has the id
+//! of another. What a copy back made is said by the passes that it gives back (`CopiesBack` in
+//! `specs/Copying`): each entry that it published at the primary is a copy (`IsCopy`) of what a look
+//! showed at the fallback. That these are the copies of which the law of copies (`copy_joins` of
+//! `vnode_core`) says that no sibling is lost or comes again is [`copies_are_true`]. So it is with the
+//! end of a diversion (`EndsDiversion` in `specs/Returning`): the close stands right behind what was
+//! looked at, and then each key's siblings at the primary are the joint ones of all sides
+//! ([`returns_join`]).
 //!
-//! How a running hand-off meets that law: a fallback keeps the pass that saw the one before it closed, and what the primary had when the
-//! partition was diverted ([`Start`]). So the end of a diversion can compare tallies, and says that the fallback took writes and deletes
-//! alone, and the primary only copies since then (`EndsFrom`). A caller who copies back alone, one call after another, can compare that its calls
-//! made all of these copies ([`copies_are_of_calls`]). Then, of any number of diversions of a partition, nothing more is asked than that contexts
-//! name what was there ([`running_hand_offs_join`]), as those do that had been shown ([`shown_contexts_name`]).
+//! How a running hand-off meets that law: a fallback keeps the pass that saw the one before it closed,
+//! and what the primary had when the partition was diverted ([`Start`]). So the end of a diversion can
+//! compare tallies, and says that the fallback took writes and deletes alone, and the primary only copies
+//! since then (`EndsFrom`). A caller who copies back alone, one call after another, can compare that its
+//! calls made all of these copies ([`copies_are_of_calls`]). Then, of any number of diversions of a
+//! partition, nothing more is asked than that contexts name what was there ([`running_hand_offs_join`]),
+//! as those do that had been shown ([`shown_contexts_name`]).
 //!
-//! What it costs: a partition that isn't diverted has a place for its fallback, and a call looks at that place. A diversion makes one
-//! gate and one vnode without keys. A key that is copied, or that is looked at and isn't, is searched for once in each vnode, and is
-//! copied for that; a key that is copied back takes three rights and its clock's size in memory, and a stretch of 16 keys that are copied
-//! already takes two, and each call one more in the beginning. A return looks at each key once, while no call is answered at the fallback. A
-//! diversion looks at the primary once, and a fallback keeps two passes, which have a number each.
+//! What it costs: a partition that isn't diverted has a place for its fallback, and a call looks at that
+//! place. A diversion makes one gate and one vnode without keys. A key that is copied, or that is looked
+//! at and isn't, is searched for once in each vnode, and is copied for that; a key that is copied back
+//! takes three rights and its clock's size in memory, and a stretch of 16 keys that are copied already
+//! takes two, and each call one more in the beginning. A return looks at each key once, while no call is
+//! answered at the fallback. A diversion looks at the primary once, and a fallback keeps two passes,
+//! which have a number each.
 //!
-//! Rights are taken in one order, the fallback's before the primary's, and no call that holds a primary's asks for a fallback's. So
-//! none of these calls waits for another that waits for it.
+//! Rights are taken in one order, the fallback's before the primary's, and no call that holds a primary's
+//! asks for a fallback's. So none of these calls waits for another that waits for it.
 #![tactic(auto)]
 
 mod copy_step;

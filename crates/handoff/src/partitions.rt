@@ -19,8 +19,9 @@ use std::marker::Model;
 use std::sync::Wait;
 use vnode_core::Vnode;
 
-/// The gates of a run, one round the vnode of each partition of a ring, and beside each partition that is diverted its fallback.
-/// Threads share it by reference, so while one is diverted no call of any partition is under way.
+/// The gates of a run, one round the vnode of each partition of a ring, and beside each partition that is
+/// diverted its fallback. Threads share it by reference, so while one is diverted no call of any
+/// partition is under way.
 ///
 /// ```text
 /// let mut handoff = Handoff::new(alloc, ring, 1)?   the primaries of run 1, with the ids 65536, 65537, ..; none is diverted
@@ -74,9 +75,10 @@ impl Model for Handoff {
 }
 
 impl Handoff {
-    /// The gates of a run, each round a new vnode: that of the partition at an index has the id `run * 65536 + index`. The run is at
-    /// least 1, and its number is used once: contexts that were shown in an earlier run of the same number may cover what their
-    /// holders never saw. No partition is diverted. Refused where memory is.
+    /// The gates of a run, each round a new vnode: that of the partition at an index has the id `run *
+    /// 65536 + index`. The run is at least 1, and its number is used once: contexts that were shown in an
+    /// earlier run of the same number may cover what their holders never saw. No partition is diverted.
+    /// Refused where memory is.
     pub fn new(alloc: Global, ring: Ring, run: u32) -> Result<Handoff, HandoffFault>
         requires { 1 ≤ run }
         ensures ring { IfOk result (λ h. h.index_bits ≡ ring) }
@@ -96,11 +98,12 @@ impl Handoff {
         })
     }
 
-    /// Diverts a partition, whose index is below the ring's size: its calls are for a new vnode from now on, with the id
-    /// `run * 65536 + 32768 + index`. The first diversion's vnode begins with epoch 1, a later one's behind the last epoch of the
-    /// closed fallback before it; where none is left, it begins no life. Refused, and all stays as it was, by `NoMemory`, or by
-    /// `AlreadyDiverted` where the partition has a fallback that one attempt to read it doesn't show closed, or had
-    /// 4,294,967,295 of them.
+    /// Diverts a partition, whose index is below the ring's size: its calls are for a new vnode from now
+    /// on, with the id `run * 65536 + 32768 + index`. The first diversion's vnode begins with epoch 1, a
+    /// later one's behind the last epoch of the closed fallback before it; where none is left, it begins
+    /// no life. Refused, and all stays as it was, by `NoMemory`, or by `AlreadyDiverted` where the
+    /// partition has a fallback that one attempt to read it doesn't show closed, or had 4,294,967,295 of
+    /// them.
     pub fn divert(&mut self, alloc: Global, index: u16) -> Result<(), HandoffFault>
         requires { index < 2 ^ self.old.index_bits }
         ensures ok { OnOk result (IsDiverted index self.old self.new) }
@@ -117,7 +120,8 @@ impl Handoff {
         Ok(())
     }
 
-    /// The gates of a partition that is diverted, or was until its fallback was closed. The index is below the ring's size.
+    /// The gates of a partition that is diverted, or was until its fallback was closed. The index is
+    /// below the ring's size.
     fn diverted(&self, index: u16) -> Option<Diverted<'_>>
         requires { index < 2 ^ self.now.index_bits }
         ensures none { IfNone result (slice_get self.now.fallbacks index ≡ Some None) }
@@ -129,17 +133,21 @@ impl Handoff {
         Some(Diverted { primary, fallback })
     }
 
-    /// Copies keys of a partition's fallback back to its primary, while calls go on: in their order, the first `budget` keys that aren't
-    /// copied as they are now. Such a one is copied where the primary's clock of the key has the fallback's own actor of it with the
-    /// fallback's counter. The index is below the ring's size.
+    /// Copies keys of a partition's fallback back to its primary, while calls go on: in their order, the
+    /// first `budget` keys that aren't copied as they are now. Such a one is copied where the primary's
+    /// clock of the key has the fallback's own actor of it with the fallback's counter. The index is
+    /// below the ring's size.
     ///
-    /// It goes through the keys in stretches of 16: under a right to read at the fallback, and one at the primary, it looks for a key that is
-    /// left; where one is, it takes the right to write at the primary in place of that to read, looks again, and publishes a copy of what the
-    /// look at the fallback showed. Then it gives all back. Whoever holds a right at a primary asks for no right at a fallback, so no two
-    /// calls wait for each other. At last it looks at both once more, and counts what is left; writes at the fallback wait for that.
+    /// It goes through the keys in stretches of 16: under a right to read at the fallback, and one at the
+    /// primary, it looks for a key that is left; where one is, it takes the right to write at the primary
+    /// in place of that to read, looks again, and publishes a copy of what the look at the fallback
+    /// showed. Then it gives all back. Whoever holds a right at a primary asks for no right at a
+    /// fallback, so no two calls wait for each other. At last it looks at both once more, and counts what
+    /// is left; writes at the fallback wait for that.
     ///
-    /// Refused, with what was copied until then copied, by `NotDiverted` where no fallback stands there, or a look shows it
-    /// closed, with the pass that has seen that; by `NoMemory`; by `GateStopped`. The call can be made again.
+    /// Refused, with what was copied until then copied, by `NotDiverted` where no fallback stands there,
+    /// or a look shows it closed, with the pass that has seen that; by `NoMemory`; by `GateStopped`. The
+    /// call can be made again.
     pub fn copy_back<R: Wait>(
         &self,
         rt: &R,
@@ -157,16 +165,18 @@ impl Handoff {
         copy_keys(rt, alloc, &partition, budget)
     }
 
-    /// Ends a partition's diversion, where each key of its fallback is copied as it is now: it closes the fallback, which drops its keys,
-    /// and later calls go to the primary again. The close carries how many entries the primary's history had at the look that found it
-    /// so. By tallies it sees that the fallback took writes and deletes alone, and that since the partition was diverted only copies came to the
-    /// primary; else `GateStopped`. The index is below the ring's size.
+    /// Ends a partition's diversion, where each key of its fallback is copied as it is now: it closes the
+    /// fallback, which drops its keys, and later calls go to the primary again. The close carries how
+    /// many entries the primary's history had at the look that found it so. By tallies it sees that the
+    /// fallback took writes and deletes alone, and that since the partition was diverted only copies came
+    /// to the primary; else `GateStopped`. The index is below the ring's size.
     ///
-    /// It takes the right to write at the fallback, and then a right to read at the primary; so no two calls wait for each
-    /// other, as with `copy_back`.
+    /// It takes the right to write at the fallback, and then a right to read at the primary; so no two
+    /// calls wait for each other, as with `copy_back`.
     ///
-    /// Refused, and all stays as it was, by `NotDiverted` where no fallback stands there, or a look shows it closed, with the pass that
-    /// has seen that; by `LeftOver`, with the passes that show it, where a key isn't copied; by `NoMemory`; by `GateStopped`.
+    /// Refused, and all stays as it was, by `NotDiverted` where no fallback stands there, or a look shows
+    /// it closed, with the pass that has seen that; by `LeftOver`, with the passes that show it, where a
+    /// key isn't copied; by `NoMemory`; by `GateStopped`.
     pub fn finish_return<R: Wait>(
         &self,
         rt: &R,

@@ -1,6 +1,7 @@
 //! What is known of all partitions' diversions.
 
-ghost use Rattle.std.specs.Prelude.{◌≡◌, ◌<◌, ◌^◌, length, IfErr, IfOk, OnErr, Some, slice_get, slice_set};
+ghost use Rattle.std.specs.Prelude.{◌≡◌, ◌<◌, ◌^◌, length, IfErr, IfOk, OnErr, Some, slice_get};
+ghost use Rattle.std.specs.Prelude.{slice_set};
 ghost use Rattle.handoff.specs.declared.copying.Copied.{Copied as CopyBack};
 ghost use Rattle.handoff.specs.declared.fault.Returned.{Returned as ReturnPasses};
 ghost use Rattle.handoff.specs.Copying.{IsCopiedBack, IsCopyFault};
@@ -102,8 +103,9 @@ impl HandoffTracks {
         self.keep(index, track.begun());
     }
 
-    /// [`Handoff::copy_back`] of a partition, whose index is below the ring's size. Where it is refused, all that is known stays; if keys were copied by then, its
-    /// return finds entries of which no call told, and the partition isn't known any more.
+    /// [`Handoff::copy_back`] of a partition, whose index is below the ring's size. Where it is refused,
+    /// all that is known stays; if keys were copied by then, its return finds entries of which no call
+    /// told, and the partition isn't known any more.
     pub fn copy_back<R: Wait>(
         &mut self,
         rt: &R,
@@ -148,7 +150,8 @@ impl HandoffTracks {
         }
     }
 
-    /// [`Handoff::finish_return`] of a partition, whose index is below the ring's size. Where it is refused, all that is known stays.
+    /// [`Handoff::finish_return`] of a partition, whose index is below the ring's size. Where it is
+    /// refused, all that is known stays.
     pub fn finish_return<R: Wait>(
         &mut self,
         rt: &R,

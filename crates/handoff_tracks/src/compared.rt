@@ -3,7 +3,8 @@
 ghost use Rattle.std.specs.Prelude.{◌≡◌, ◌+◌, ◌≤◌, length, IfSome, IsTrue};
 ghost use mathlib.Core.List.{IsPrefix};
 ghost use Rattle.handoff.specs.Running.{commands_in};
-ghost use Rattle.handoff_tracks.specs.Compared.{AreAll, CopiesGates, EndsBehind, Follows, HaveSameGates, IsBehind, KeepsGates};
+ghost use Rattle.handoff_tracks.specs.Compared.{AreAll, CopiesGates, EndsBehind, Follows};
+ghost use Rattle.handoff_tracks.specs.Compared.{HaveSameGates, IsBehind, KeepsGates};
 
 use crate::track::{Copies, LastReturn};
 use handoff::{Copied, Pass, Returned, Start, Tally, Vnode};
@@ -49,7 +50,8 @@ pub(crate) fn commands_in(tally: Tally) -> Option<u64>
     updates.checked_add(tally.reaps)
 }
 
-/// Whether a return saw what the last of these calls had, and then the close, and the first began behind so many entries; or there was no call.
+/// Whether a return saw what the last of these calls had, and then the close, and the first began behind
+/// so many entries; or there was no call.
 fn ends_last(began: u64, copies: &Copies, passes: &Returned) -> bool
     requires { CopiesGates copies.now passes.now }
     ensures { IsTrue result → IfSome copies.now.last
@@ -61,7 +63,8 @@ fn ends_last(began: u64, copies: &Copies, passes: &Returned) -> bool
     }
 }
 
-/// Whether a primary took commands alone between its last return and the beginning of a diversion, when it had taken so many.
+/// Whether a primary took commands alone between its last return and the beginning of a diversion, when
+/// it had taken so many.
 fn took_commands(last: &LastReturn, start: &Start, commands: u64) -> bool
     ensures { IsTrue result → commands + length last.now.passes.primary.prefix
         ≡ last.now.commands + length start.now.pass.prefix }

@@ -1,9 +1,11 @@
 //! What a caller of a hand-off knows of each partition's diversions, who makes all calls of it one behind another.
 //!
-//! [`HandoffTracks`] makes these calls and compares what they give: that a copy back began behind all that the one before it had seen, that the calls of a
-//! diversion copied as many keys as entries came to its primary, and that a diversion began right behind the last return. So it keeps, of each partition, the
-//! passes of the last return and of the last copy back, and some counts ([`HandoffTrack`]); in clauses stand the calls themselves (`HaveTracks` in
-//! `specs/Tracks`). Where all of them are known, they are what `running_hand_offs_join` of `handoff` asks for: no sibling was lost by them, and none came
+//! [`HandoffTracks`] makes these calls and compares what they give: that a copy back began behind all
+//! that the one before it had seen, that the calls of a diversion copied as many keys as entries came to
+//! its primary, and that a diversion began right behind the last return. So it keeps, of each partition,
+//! the passes of the last return and of the last copy back, and some counts ([`HandoffTrack`]); in
+//! clauses stand the calls themselves (`HaveTracks` in `specs/Tracks`). Where all of them are known, they
+//! are what `running_hand_offs_join` of `handoff` asks for: no sibling was lost by them, and none came
 //! again ([`known_hand_offs_join`]).
 //!
 //! ```text
@@ -16,7 +18,8 @@
 //! tracks.tracks()[0].returned()                              Some(1); None where a copy back was refused behind some keys
 //! ```
 //!
-//! What it costs: a call of the hand-off, and some comparisons of numbers. A partition takes some hundred bytes, made once.
+//! What it costs: a call of the hand-off, and some comparisons of numbers. A partition takes some hundred
+//! bytes, made once.
 #![tactic(auto)]
 
 mod calls;

@@ -1,12 +1,15 @@
 //! What is known of a partition's diversions.
 
-ghost use Rattle.std.specs.Prelude.{◌≡◌, ◌++◌, ◌∷◌, [], ℕ, List, Some, IfSome, MatchOption, slice_get};
+ghost use Rattle.std.specs.Prelude.{◌≡◌, ◌++◌, ◌∷◌, [], ℕ, List, Some, IfSome, MatchOption};
+ghost use Rattle.std.specs.Prelude.{slice_get};
 ghost use Rattle.handoff.specs.declared.copying.Copied.{Copied as CopyBack};
 ghost use Rattle.handoff.specs.declared.gates.Fallback.{Fallback as FallbackView};
 ghost use Rattle.handoff.specs.Copying.{CopiesBack, IsCopiedBack};
 ghost use Rattle.handoff.specs.Partitions.{GateId, HandoffView, IsDiverted, View};
 ghost use Rattle.handoff.specs.Returning.{HasReturned};
-ghost use Rattle.handoff_tracks.specs.Compared.{CanCopy, CanEnd, CopiesGates, HaveSameGates, IsBehind, IsReturnOf, KeepsGates, returned_by, returned_of};
+ghost use Rattle.handoff_tracks.specs.Compared.{CanCopy, CanEnd, CopiesGates, HaveSameGates};
+ghost use Rattle.handoff_tracks.specs.Compared.{IsBehind, IsReturnOf, KeepsGates, returned_by};
+ghost use Rattle.handoff_tracks.specs.Compared.{returned_of};
 ghost use Rattle.handoff_tracks.specs.Tracks.{IsTrack, WereMade};
 
 use crate::compared::{are_all, commands_in, follows, is_behind};
@@ -79,8 +82,9 @@ impl Copies {
     /// With those of a call more; none where it isn't behind the last one.
     fn with(self, next: Copied) -> Option<Copies>
         requires { IfSome self.last (λ last. HaveSameGates last next) }
-        ensures { (primary : GateId View) (fallback : FallbackView) (budget : ℕ) (calls : List CopyBack)
-            → WereMade primary fallback self calls → CopiesBack primary fallback budget next
+        ensures { (primary : GateId View) (fallback : FallbackView) (budget : ℕ)
+            (calls : List CopyBack) → WereMade primary fallback self calls
+            → CopiesBack primary fallback budget next
             → IfSome result (λ copies. WereMade primary fallback copies (calls ++ next ∷ [])) }
     {
         let from = from_of(self.from, &self.last, &next)?;
@@ -178,7 +182,8 @@ impl HandoffTrack {
         }
     }
 
-    /// How many diversions of the partition have returned, of each of which all calls are known. None where that isn't known.
+    /// How many diversions of the partition have returned, of each of which all calls are known. None
+    /// where that isn't known.
     pub fn returned(&self) -> Option<u64>
         ensures { result ≡ returned_of self.now }
     {

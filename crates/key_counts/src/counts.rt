@@ -115,8 +115,9 @@ pub struct Stretch {
     pub is_last: bool,
 }
 
-/// What a vnode stores behind a key, or from the first where none is given, counted key by key: 1,000 keys, or as many as there are. The key becomes
-/// the last of them. Each is copied, to go on from it: refused where memory is. It leaves the vnode as it is.
+/// What a vnode stores behind a key, or from the first where none is given, counted key by key: 1,000
+/// keys, or as many as there are. The key becomes the last of them. Each is copied, to go on from it:
+/// refused where memory is. It leaves the vnode as it is.
 pub(crate) fn count_stretch(
     alloc: Global,
     vnode: &Vnode,

@@ -1,11 +1,14 @@
 //! How many keys, siblings, dead keys and bytes of values the vnodes of a hand-off store.
 //!
-//! [`count_at`] walks over the keys of a gate's vnode, one behind another, in pieces of 1,000: each by a look of one pass, under a right to read of its
-//! own, so that nobody waits longer than for a piece. What is counted in a piece is what the vnode stores there at the end of all that the pass has seen
-//! then (`IsPiece` in `specs/Looks`), and each piece begins where the one before ended, with all seen that that one had. So a key that stays as it is counts
-//! once, as it is, and one that is written meanwhile as it was or as it is. Where nobody writes meanwhile the vnode stores just what was counted
-//! ([`unchanged_vnodes_are_counted_exactly`]). [`count_partitions`] counts so the primary of each partition and its fallback where it has one, while calls
-//! go on. A closed fallback holds no keys, so it counts nothing.
+//! [`count_at`] walks over the keys of a gate's vnode, one behind another, in pieces of 1,000: each by a
+//! look of one pass, under a right to read of its own, so that nobody waits longer than for a piece. What
+//! is counted in a piece is what the vnode stores there at the end of all that the pass has seen then
+//! (`IsPiece` in `specs/Looks`), and each piece begins where the one before ended, with all seen that
+//! that one had. So a key that stays as it is counts once, as it is, and one that is written meanwhile as
+//! it was or as it is. Where nobody writes meanwhile the vnode stores just what was counted
+//! ([`unchanged_vnodes_are_counted_exactly`]). [`count_partitions`] counts so the primary of each
+//! partition and its fallback where it has one, while calls go on. A closed fallback holds no keys, so it
+//! counts nothing.
 //!
 //! ```text
 //! put "v" on b/k, "w" on b/k without a context, and "xyz" on b/j; then delete b/j
@@ -14,8 +17,8 @@
 //! total_of(all.as_slice())                             the sums of all of them
 //! ```
 //!
-//! What it costs: a search and a copy of each key, and a look at each sibling. Writes of that vnode wait while a piece is counted; those of the others
-//! don't.
+//! What it costs: a search and a copy of each key, and a look at each sibling. Writes of that vnode wait
+//! while a piece is counted; those of the others don't.
 #![tactic(auto)]
 
 mod counts;

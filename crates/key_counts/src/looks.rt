@@ -45,8 +45,8 @@ impl Drop for Counted {
     }
 }
 
-/// What a vnode stores behind a key under a right to read, which the caller gives back. None where the history had gone on past the state that was
-/// found.
+/// What a vnode stores behind a key under a right to read, which the caller gives back. None where the
+/// history had gone on past the state that was found.
 fn look_under(
     alloc: Global,
     right: &ReadRight<'_, Vnode>,
@@ -69,7 +69,8 @@ fn look_under(
     }
 }
 
-/// What the vnode of a gate stores behind a key, at one look. None where the history had gone on past the state that was found.
+/// What the vnode of a gate stores behind a key, at one look. None where the history had gone on past the
+/// state that was found.
 fn look<R: Wait>(
     rt: &R,
     alloc: Global,
@@ -90,7 +91,8 @@ fn look<R: Wait>(
     seen
 }
 
-/// The next piece of a count, at a look by a pass, which is made again where it was behind. The pass and the key are then as it says.
+/// The next piece of a count, at a look by a pass, which is made again where it was behind. The pass and
+/// the key are then as it says.
 fn count_piece<R: Wait>(
     rt: &R,
     alloc: Global,
@@ -121,8 +123,9 @@ fn count_piece<R: Wait>(
     unreachable!()
 }
 
-/// What the vnode of a gate stores, by looks of a new pass, each under a right to read of its own, which others may have in between: 1,000 keys at each.
-/// A look is made again where the history had gone on past the state that was found. It waits; memory may be refused.
+/// What the vnode of a gate stores, by looks of a new pass, each under a right to read of its own, which
+/// others may have in between: 1,000 keys at each. A look is made again where the history had gone on
+/// past the state that was found. It waits; memory may be refused.
 pub fn count_at<R: Wait>(rt: &R, alloc: Global, gate: &Gate<Vnode>) -> Result<Counted, AllocError>
     requires { IsOfVnode gate.now }
     ensures { IfOk result (IsCountedBy gate.now) }

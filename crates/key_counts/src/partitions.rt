@@ -55,8 +55,8 @@ fn count_fallback<R: Wait>(
     }
 }
 
-/// What the vnodes of a partition store: its primary's, and its fallback's where it has one, each in pieces. The index is below the ring's
-/// size. It waits; memory may be refused.
+/// What the vnodes of a partition store: its primary's, and its fallback's where it has one, each in
+/// pieces. The index is below the ring's size. It waits; memory may be refused.
 pub fn count_partition<R: Wait>(
     rt: &R,
     alloc: Global,
@@ -72,8 +72,8 @@ pub fn count_partition<R: Wait>(
     Ok(PartitionCounts { primary, fallback })
 }
 
-/// What the vnodes of each partition store, in their order, each piece at a moment of its own, while calls go on. It waits; memory may
-/// be refused.
+/// What the vnodes of each partition store, in their order, each piece at a moment of its own, while
+/// calls go on. It waits; memory may be refused.
 pub fn count_partitions<R: Wait>(
     rt: &R,
     alloc: Global,

@@ -70,7 +70,8 @@ impl<'a, 'b> Listing<(&'a GhostList<Exchange>, Frame<'b>, &'a GhostReply), Excha
         ++ record { code = it.1.code; body = it.1.body.now; reply = it.2.now } ∷ [] };
 }
 
-/// Takes the next whole message, answers it, and puts the frame of the reply where nothing else is to be sent; whether that has one.
+/// Takes the next whole message, answers it, and puts the frame of the reply where nothing else is to be
+/// sent; whether that has one.
 #[inline(always)]
 pub(crate) fn answer_next<N: Node>(
     alloc: Global,

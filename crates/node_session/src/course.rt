@@ -1,5 +1,6 @@
 //! A session in steps.
-ghost use Rattle.std.specs.Prelude.{◌≡◌, ◌<◌, ◌≤◌, ℕ, List, Option, length, true, false, IfSome, IfNone};
+ghost use Rattle.std.specs.Prelude.{◌≡◌, ◌<◌, ◌≤◌, ℕ, List, Option, length, true, false, IfSome};
+ghost use Rattle.std.specs.Prelude.{IfNone};
 ghost use Rattle.node_session.specs.Views.{new_session};
 ghost use Rattle.node_session.specs.Courses.{Came, Goes, Fits, IsGoing, CanWait, IsOver, weight};
 ghost use Rattle.node_session.specs.declared.stage.Stage.TheVariants.{Answering, Over};
@@ -13,7 +14,8 @@ use crate::talk::Talk;
 use std::alloc::Global;
 use std::io::{Read, Write};
 
-/// A session in steps, which knows neither its streams nor its node: these are lent to each step, and so is the room for what it reads and replies.
+/// A session in steps, which knows neither its streams nor its node: these are lent to each step, and so
+/// is the room for what it reads and replies.
 ///
 /// ```text
 /// let mut course = Course::new(alloc, 1000);                              // 1,000 reads at most
@@ -54,7 +56,8 @@ impl Course {
         }
     }
 
-    /// Takes one step: it answers one message, or calls one stream once. True where that stream would have to wait; then nothing is done.
+    /// Takes one step: it answers one message, or calls one stream once. True where that stream would
+    /// have to wait; then nothing is done.
     #[inline(always)]
     pub fn step<N: Node, R: Read, W: Write>(
         &mut self,
@@ -89,7 +92,8 @@ impl Course {
         }
     }
 
-    /// Ends a session whose stream would have to wait, where nobody waits for it: that counts as a failure of the stream.
+    /// Ends a session whose stream would have to wait, where nobody waits for it: that counts as a
+    /// failure of the stream.
     pub fn stop<N: Node>(&mut self)
         requires { CanWait self.old.stage self.old.talk.session }
         ensures goes { (first now : N) (unread unread' held held' : Option (List ℕ))
@@ -105,7 +109,8 @@ impl Course {
         self.stage = Stage::Over(result);
     }
 
-    /// Lets it go, and gives back the room that was lent to it: where a session is over before all of its reply was sent.
+    /// Lets it go, and gives back the room that was lent to it: where a session is over before all of its
+    /// reply was sent.
     pub fn end(self, scratch: &mut Scratch) {
         let Course { talk, stage: _ } = self;
         talk.end(scratch);

@@ -2,7 +2,8 @@
 
 ghost use Rattle.std.specs.Prelude.{ℕ, ◌≡◌};
 ghost use Rattle.node_session.specs.Limits.{max_read_len};
-ghost use Rattle.node_session.specs.SessionLaws.{IsRunNumber, RunsAreRegisters, EndsAreRegisters, StopsAreRegisters};
+ghost use Rattle.node_session.specs.SessionLaws.{IsRunNumber, RunsAreRegisters, EndsAreRegisters};
+ghost use Rattle.node_session.specs.SessionLaws.{StopsAreRegisters};
 
 use crate::serving::MAX_READ_LEN;
 

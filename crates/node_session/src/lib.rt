@@ -9,26 +9,30 @@
 //!     == Err(SessionFault::BadFrame(0))                           // writer: the error `bad frame`, which isn't counted
 //! ```
 //!
-//! What a session writes is `Answered` by its input (`specs/Answered`): the frames of the input's messages are read one
-//! after another, each message is answered by a step of the node, or by its error where it is no request, and the frames
-//! of these replies are written. A length that no frame has is answered by one error, and ends the session. Each other
-//! end has its clause too: how many whole replies went out before it, and the state of the node (`specs/Session`).
+//! What a session writes is `Answered` by its input (`specs/Answered`): the frames of the input's
+//! messages are read one after another, each message is answered by a step of the node, or by its error
+//! where it is no request, and the frames of these replies are written. A length that no frame has is
+//! answered by one error, and ends the session. Each other end has its clause too: how many whole replies
+//! went out before it, and the state of the node (`specs/Session`).
 //!
-//! [`Course`] is a session in steps, each of which answers one message or calls one stream once; each reply is sent before the next message is
-//! answered. Whoever has many of them may take their steps in any order, and each comes to what `serve` promises (`specs/Courses`). [`serve`] is
-//! the loop of these steps, over streams that wait. What a step reads into, and where a reply's frame lies until it was sent, is lent to it
-//! ([`Scratch`]), so a session that waits for its next request holds no buffer.
+//! [`Course`] is a session in steps, each of which answers one message or calls one stream once; each
+//! reply is sent before the next message is answered. Whoever has many of them may take their steps in
+//! any order, and each comes to what `serve` promises (`specs/Courses`). [`serve`] is the loop of these
+//! steps, over streams that wait. What a step reads into, and where a reply's frame lies until it was
+//! sent, is lent to it ([`Scratch`]), so a session that waits for its next request holds no buffer.
 //!
-//! `serve` reads up to 4,096 bytes at a time, and answers each whole frame that has come before it reads on. Where it
-//! stops among its answers, no frame is left unanswered but those that its last 4,096 bytes at most made whole. It never
-//! holds the whole input: only the frame that is still to come whole, what was read along with it, and one reply. Errors
-//! take no memory. It asks the writer to flush before each read, so a writer may gather the replies and pay one write
-//! for all that a read brought. Where a worker lends the room ([`Scratch`]), what a long message still lacks is read up to
-//! 65,536 bytes at a time, and never more than that: such a read counts as one for each 4,096 bytes of it.
+//! `serve` reads up to 4,096 bytes at a time, and answers each whole frame that has come before it reads
+//! on. Where it stops among its answers, no frame is left unanswered but those that its last 4,096 bytes
+//! at most made whole. It never holds the whole input: only the frame that is still to come whole, what
+//! was read along with it, and one reply. Errors take no memory. It asks the writer to flush before each
+//! read, so a writer may gather the replies and pay one write for all that a read brought. Where a worker
+//! lends the room ([`Scratch`]), what a long message still lacks is read up to 65,536 bytes at a time,
+//! and never more than that: such a read counts as one for each 4,096 bytes of it.
 //!
-//! `PlainNode` is a node for one thread: the vnodes of a ring, each key in that of its partition, whose machine is its
-//! step (`specs/PlainNodes`). After each answer to a get, a put or a delete it forgets the first dead keys of that key's
-//! vnode, so many at most. `plain_node_is_register` is the law of its sessions.
+//! `PlainNode` is a node for one thread: the vnodes of a ring, each key in that of its partition, whose
+//! machine is its step (`specs/PlainNodes`). After each answer to a get, a put or a delete it forgets the
+//! first dead keys of that key's vnode, so many at most. `plain_node_is_register` is the law of its
+//! sessions.
 #![tactic(auto)]
 
 mod answering;

@@ -3,7 +3,8 @@
 ghost use Rattle.std.specs.Prelude.{◌≡◌, ◌≤◌, [], IfOk};
 ghost use Rattle.sibling_register.specs.Answers.{AskGet, AskPut, AskDel};
 ghost use Rattle.vnode_machine.specs.Asks.{get_command, put_command, del_command};
-ghost use Rattle.node_session.specs.PlainNodes.{states_of, AnswersByKey, AreNew, AreOpen, IsNewNode};
+ghost use Rattle.node_session.specs.PlainNodes.{states_of, AnswersByKey, AreNew, AreOpen};
+ghost use Rattle.node_session.specs.PlainNodes.{IsNewNode};
 ghost use Rattle.node_session.specs.Unsent.{PutsReply};
 
 use crate::framed_reply::{FramedReply, put_whole};
@@ -38,11 +39,12 @@ impl From<AllocError> for NodeFault {
 /// A node that keeps its keys in the vnodes of a ring, each key in that of its partition, and waits for nobody.
 /// Contracts see the vnodes' states, and its step is the vnode machine's at the key's vnode.
 ///
-/// One of run 1 and one partition, over its life: a get of b/k shows that the key is absent. A put of "v" on b/k is
-/// stored, at the first dot of the actor (65536, 1). A get shows "v" with the context of that dot. A put of "w" without
-/// context is stored beside "v", and a get shows "w", "v" and the context of both dots. A delete without context leaves a
-/// tombstone alone: a get shows that the key is absent, and its context to who asks for it. With a budget of 1 the key is
-/// forgotten after the delete's answer, and a put begins a new life, at the actor (65536, 2).
+/// One of run 1 and one partition, over its life: a get of b/k shows that the key is absent. A put of "v"
+/// on b/k is stored, at the first dot of the actor (65536, 1). A get shows "v" with the context of that
+/// dot. A put of "w" without context is stored beside "v", and a get shows "w", "v" and the context of
+/// both dots. A delete without context leaves a tombstone alone: a get shows that the key is absent, and
+/// its context to who asks for it. With a budget of 1 the key is forgotten after the delete's answer, and
+/// a put begins a new life, at the actor (65536, 2).
 pub struct PlainNode {
     ring: Ring,
     budget: u32,
@@ -112,9 +114,9 @@ impl PlainNode {
         })
     }
 
-    /// This node with another budget of its sweeps: after each answer to a get, a put or a delete, the vnode of that key
-    /// forgets its first `budget` dead keys, in key order, each with its clock. A new node's budget is 0. It takes no
-    /// memory.
+    /// This node with another budget of its sweeps: after each answer to a get, a put or a delete, the
+    /// vnode of that key forgets its first `budget` dead keys, in key order, each with its clock. A new
+    /// node's budget is 0. It takes no memory.
     pub fn with_budget(mut self, budget: u32) -> PlainNode
         ensures { result ≡ record self { budget = budget } }
     {

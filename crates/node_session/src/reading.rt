@@ -1,5 +1,6 @@
 //! What a session reads at once.
-ghost use Rattle.std.specs.Prelude.{◌≡◌, ◌+◌, ◌-◌, ◌*◌, ◌<◌, ◌≤◌, ℕ, Option, List, length, IfSome, IfNone};
+ghost use Rattle.std.specs.Prelude.{◌≡◌, ◌+◌, ◌-◌, ◌*◌, ◌<◌, ◌≤◌, ℕ, Option, List, length, IfSome};
+ghost use Rattle.std.specs.Prelude.{IfNone};
 ghost use Rattle.std.specs.Io.KnownBytes.{Keeps};
 ghost use Rattle.node_session.specs.Courses.{Goes, Fits, weight};
 ghost use Rattle.node_session.specs.Limits.{max_read_len};
@@ -28,8 +29,8 @@ fn reads_for(bytes: usize) -> u64
 }
 
 impl Talk {
-    /// Reads once into this buffer, and takes what comes, which this node will answer, where it has no room into what is lent. None where the reader
-    /// would have to wait.
+    /// Reads once into this buffer, and takes what comes, which this node will answer, where it has no
+    /// room into what is lent. None where the reader would have to wait.
     #[inline(always)]
     pub(crate) fn read<N: Node, R: Read>(
         &mut self,
@@ -78,8 +79,9 @@ impl Talk {
         }
     }
 
-    /// Reads once: of a message that lacks more than 4,096 bytes as many of these as a long read takes, where there is a buffer for it; else as much
-    /// as there is room for in what is lent, or what a page holds, and 4,096 bytes at most.
+    /// Reads once: of a message that lacks more than 4,096 bytes as many of these as a long read takes,
+    /// where there is a buffer for it; else as much as there is room for in what is lent, or what a page
+    /// holds, and 4,096 bytes at most.
     #[inline(always)]
     pub(crate) fn read_some<N: Node, R: Read>(
         &mut self,

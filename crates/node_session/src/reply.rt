@@ -1,6 +1,7 @@
 //! Replies as frames.
 
-ghost use Rattle.std.specs.Prelude.{◌≡◌, ◌≤◌, ◌<◌, ◌++◌, List, ℕ, [], length, IfOk, IfErr, OnOk, OnErr};
+ghost use Rattle.std.specs.Prelude.{◌≡◌, ◌≤◌, ◌<◌, ◌++◌, List, ℕ, [], length, IfOk, IfErr, OnOk};
+ghost use Rattle.std.specs.Prelude.{OnErr};
 ghost use Rattle.pb_frame.specs.Limits.{max_body_len};
 ghost use Rattle.pb_frame.specs.Message.{frame};
 ghost use Rattle.node_session.specs.Answers.{message_fault_text, frame_fault_text, IsUnframed};
@@ -46,8 +47,8 @@ fn body_header(code: u8, body_len: usize) -> Result<[u8; HEADER_LEN], FrameFault
     header(code, body_len)
 }
 
-/// Writes the frame of a message with a body into an empty buffer: the header, and the body behind it. Room for it is lent, or made in the
-/// buffer, first. Where it is refused a part may be there.
+/// Writes the frame of a message with a body into an empty buffer: the header, and the body behind it.
+/// Room for it is lent, or made in the buffer, first. Where it is refused a part may be there.
 #[inline(always)]
 fn write_frame<M: Message>(
     out: &mut Vec<u8>,
@@ -75,8 +76,9 @@ fn write_frame<M: Message>(
     }
 }
 
-/// Puts the frame of a message with a body into an empty buffer, with the room that is lent where it has enough. Refused by `TooLarge` just where a
-/// frame can't hold the body, and where memory is refused; the buffer is empty then.
+/// Puts the frame of a message with a body into an empty buffer, with the room that is lent where it has
+/// enough. Refused by `TooLarge` just where a frame can't hold the body, and where memory is refused; the
+/// buffer is empty then.
 #[inline(always)]
 pub(crate) fn fill_frame<M: Message>(
     out: &mut Vec<u8>,

@@ -17,8 +17,9 @@ use vnode_core::StoredReply;
 /// The code of the reply to a get.
 const GET_CODE: u8 = 10;
 
-/// The frame of a reply, of which some bytes were sent. That of an error, and of a reply that shows nothing, takes no memory; that of another lies in
-/// room that the worker lends, where it finds enough there.
+/// The frame of a reply, of which some bytes were sent. That of an error, and of a reply that shows
+/// nothing, takes no memory; that of another lies in room that the worker lends, where it finds enough
+/// there.
 ///
 /// Contracts see the bytes that are still to be sent.
 #[derive(Drop)]
@@ -40,8 +41,8 @@ impl Model for ReplyFrame {
     ghost invariant = { λ o. o.sent ≤ vec_len o.frame };
 }
 
-/// Empties the buffer of a frame that was sent. Its memory goes back at once where the worker wouldn't take it: its session may be held up before it takes
-/// its next step.
+/// Empties the buffer of a frame that was sent. Its memory goes back at once where the worker wouldn't
+/// take it: its session may be held up before it takes its next step.
 fn clear_frame(frame: &mut Vec<u8>)
     ensures { frame.new.items ≡ [] }
 {
@@ -148,8 +149,9 @@ impl ReplyFrame {
         self.put_constant(error_frame(text));
     }
 
-    /// Puts the frame of a reply where nothing else is to be sent. Refused by `TooLarge` just where a frame can't hold the reply's body, and where
-    /// memory is. That of an error, of a ping or a delete, and of a get or a put that shows nothing takes no memory.
+    /// Puts the frame of a reply where nothing else is to be sent. Refused by `TooLarge` just where a
+    /// frame can't hold the reply's body, and where memory is. That of an error, of a ping or a delete,
+    /// and of a get or a put that shows nothing takes no memory.
     #[inline(always)]
     pub fn put(&mut self, reply: &Reply, scratch: &mut Scratch) -> Result<(), FrameFault>
         requires { self.old ≡ [] }

@@ -19,8 +19,8 @@ pub fn exit_status(outcome: Result<Ended, SessionFault>) -> u8
     }
 }
 
-/// Writes the program's line for a fault, such as `riak_node: bad frame after 2 replies`. It takes no memory. An `Err` is
-/// the writer's.
+/// Writes the program's line for a fault, such as `riak_node: bad frame after 2 replies`. It takes no
+/// memory. An `Err` is the writer's.
 pub fn write_fault<W: Write>(writer: &mut W, fault: SessionFault) -> io::Result<()>
     ensures { OnOk result
         (Appends (W.contents writer.old) (W.contents writer.new) (fault_line fault)) }

@@ -11,12 +11,14 @@ use std::mem;
 /// How much room is kept for requests, and how much for a reply, in bytes.
 pub(crate) const MOST_ROOM: usize = 65_520;
 
-/// What a worker lends to each step of its sessions: the bytes that a read comes into, those of a long message, room for requests that are still to be
-/// answered, and room for the frame of a reply.
+/// What a worker lends to each step of its sessions: the bytes that a read comes into, those of a long
+/// message, room for requests that are still to be answered, and room for the frame of a reply.
 ///
-/// A session takes room when it has read or replied something, and gives it back once all that was read is answered and sent: one that waits for its
-/// next request holds none. Once [`make_room`](Self::make_room) has made all, a request of up to 61,424 bytes and a reply of up to
-/// 65,520 take no memory for their frames: so they come and go in a node that has none left too. Longer ones take memory of their own.
+/// A session takes room when it has read or replied something, and gives it back once all that was read
+/// is answered and sent: one that waits for its next request holds none. Once
+/// [`make_room`](Self::make_room) has made all, a request of up to 61,424 bytes and a reply of up to
+/// 65,520 take no memory for their frames: so they come and go in a node that has none left too. Longer
+/// ones take memory of their own.
 pub struct Scratch {
     pub(crate) piece: [u8; MAX_READ_LEN],
     /// None, or as many as a long read takes.

@@ -19,10 +19,11 @@ pub const MAX_READ_LEN: usize = 4096;
 /// Serves one connection: reads requests from `reader` to the end of the input, at most `reads` times, answers each of
 /// them in order by `node`, and writes the replies to `writer`.
 ///
-/// A read takes up to [`MAX_READ_LEN`] bytes here, and each whole request that has come is answered before the next read. A request's
-/// frame has a length of at most [`MAX_REQUEST_LEN`]. A message that is no request is answered by its error, and the
-/// session goes on. A read, write or flush that is interrupted is tried again; such a read counts as one. The writer is
-/// flushed before each read, so that at the end all is flushed, and, as far as that can be done, after a fault.
+/// A read takes up to [`MAX_READ_LEN`] bytes here, and each whole request that has come is answered
+/// before the next read. A request's frame has a length of at most [`MAX_REQUEST_LEN`]. A message that is
+/// no request is answered by its error, and the session goes on. A read, write or flush that is
+/// interrupted is tried again; such a read counts as one. The writer is flushed before each read, so that
+/// at the end all is flushed, and, as far as that can be done, after a fault.
 pub fn serve<R: Read, W: Write, N: Node>(
     alloc: Global,
     reader: &mut R,
@@ -45,8 +46,8 @@ pub fn serve<R: Read, W: Write, N: Node>(
         Stops N.step node.old node.new input
         (W.contents writer.old) (W.contents writer.new) fault)) }
 
-    // Too many reads are a fault only after all were made, each of which gave a byte at least or was interrupted. No clause sees how many were
-    // interrupted, so this one bounds nothing.
+    // Too many reads are a fault only after all were made, each of which gave a byte at least or was
+    // interrupted. No clause sees how many were interrupted, so this one bounds nothing.
     ensures too_many { IfErr result (λ fault. IsTooManyReads fault
         → MadeReads (R.remaining reader.old) (R.remaining reader.new) reads) }
 {

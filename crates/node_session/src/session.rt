@@ -1,6 +1,7 @@
 //! A session in steps: bytes come in, messages are answered, bytes go out.
 
-ghost use Rattle.std.specs.Prelude.{◌≡◌, ◌+◌, ◌^◌, ◌≤◌, ◌<◌, ◌++◌, [], drop, length, None, OnOk, OnErr};
+ghost use Rattle.std.specs.Prelude.{◌≡◌, ◌+◌, ◌^◌, ◌≤◌, ◌<◌, ◌++◌, [], drop, length, None, OnOk};
+ghost use Rattle.std.specs.Prelude.{OnErr};
 ghost use Rattle.pb_frame.specs.Limits.{max_request_len};
 ghost use Rattle.node_session.specs.Limits.{max_read_len};
 ghost use Rattle.pb_frame.specs.Message.{IsPartial, given_length};
@@ -38,11 +39,13 @@ pub enum Halt {
     NoMemory,
 }
 
-/// One connection's session, which knows neither its reader nor its writer nor its node: pieces that were read are fed to it, a node is lent
-/// to each answer, and what is to be sent is looked at and told as sent. So it serves streams that wait and streams that don't.
+/// One connection's session, which knows neither its reader nor its writer nor its node: pieces that were
+/// read are fed to it, a node is lent to each answer, and what is to be sent is looked at and told as
+/// sent. So it serves streams that wait and streams that don't.
 ///
-/// It holds the message that is still to come whole, what was read along with it, and what is still to be sent of the last reply: the next
-/// message is answered once all of it was. Contracts see all that was read and each message with its reply too, of which nothing is held.
+/// It holds the message that is still to come whole, what was read along with it, and what is still to be
+/// sent of the last reply: the next message is answered once all of it was. Contracts see all that was
+/// read and each message with its reply too, of which nothing is held.
 #[derive(Drop)]
 pub struct Session {
     framer: Framer,
@@ -107,8 +110,8 @@ impl Session {
         let _ = &self.framer;
     }
 
-    /// Takes a piece that was read behind all others, of at most 4,096 bytes or no more than the next message lacks. Each whole message was
-    /// answered before. Where memory is refused nothing changes.
+    /// Takes a piece that was read behind all others, of at most 4,096 bytes or no more than the next
+    /// message lacks. Each whole message was answered before. Where memory is refused nothing changes.
     pub fn feed(&mut self, piece: &[u8]) -> Result<(), AllocError>
         requires no_fault { self.old.fault ≡ None }
         requires idle { IsPartial max_request_len self.old.rest }
@@ -144,7 +147,8 @@ impl Session {
         self.framer.lend(requests, more);
     }
 
-    /// How many bytes are to be read at once, which have room in what is lent, or as few that a page is enough for what they make longer.
+    /// How many bytes are to be read at once, which have room in what is lent, or as few that a page is
+    /// enough for what they make longer.
     #[inline(always)]
     pub(crate) fn reading_len(&self, requests: &Vec<u8>) -> usize
         ensures { (0 < result) × (result ≤ max_read_len) }
@@ -164,7 +168,8 @@ impl Session {
         }
     }
 
-    /// Takes a piece, as `feed` does, of a session whose messages a node answers: once more where memory was refused and the node made room.
+    /// Takes a piece, as `feed` does, of a session whose messages a node answers: once more where memory
+    /// was refused and the node made room.
     pub fn feed_for<N: Node>(
         &mut self,
         alloc: Global,
@@ -213,8 +218,8 @@ impl Session {
         self.outbox.sent(n);
     }
 
-    /// Answers the next message that has come whole, by a step of the node or, where it is no request, by its error, which takes no memory.
-    /// After a halt there is nothing more to feed or answer.
+    /// Answers the next message that has come whole, by a step of the node or, where it is no request, by
+    /// its error, which takes no memory. After a halt there is nothing more to feed or answer.
     pub fn answer_next<N: Node>(
         &mut self,
         alloc: Global,

@@ -1,11 +1,13 @@
 //! A session with what it has counted, and what it does at each stage.
-ghost use Rattle.std.specs.Prelude.{◌≡◌, ◌<◌, ◌≤◌, [], ℕ, List, Option, None, length, IfSome, IfNone};
+ghost use Rattle.std.specs.Prelude.{◌≡◌, ◌<◌, ◌≤◌, [], ℕ, List, Option, None, length, IfSome};
+ghost use Rattle.std.specs.Prelude.{IfNone};
 ghost use Rattle.std.specs.Io.KnownBytes.{Keeps};
 ghost use Rattle.pb_frame.specs.Limits.{max_request_len};
 ghost use Rattle.pb_frame.specs.Message.{IsPartial};
 ghost use Rattle.node_session.specs.Views.{new_session};
 ghost use Rattle.node_session.specs.Courses.{Came, IsOverBy, Goes, Fits, IsGoing, CanWait, weight};
-ghost use Rattle.node_session.specs.declared.stage.Stage.TheVariants.{Answering, Sending, Telling, Flushing, Reading, Closing};
+ghost use Rattle.node_session.specs.declared.stage.Stage.TheVariants.{Answering, Sending, Telling};
+ghost use Rattle.node_session.specs.declared.stage.Stage.TheVariants.{Flushing, Reading, Closing};
 
 use crate::ended::Ended;
 use crate::fault::SessionFault;
@@ -17,7 +19,8 @@ use pb_frame::{Flushed, Wrote, try_flush, try_write};
 use std::alloc::Global;
 use std::io::{Read, Write};
 
-/// A session, and what it has counted: how many replies were written whole, how many reads were made, and how many are made at most.
+/// A session, and what it has counted: how many replies were written whole, how many reads were made, and
+/// how many are made at most.
 ///
 /// Each of its methods does what is to be done at one stage, and answers the next one.
 #[derive(Drop)]
@@ -172,7 +175,8 @@ impl Talk {
         }
     }
 
-    /// Takes one step from a stage that isn't the last one. The stage to which it comes; None where a stream would have to wait.
+    /// Takes one step from a stage that isn't the last one. The stage to which it comes; None where a
+    /// stream would have to wait.
     #[inline(always)]
     pub(crate) fn go<N: Node, R: Read, W: Write>(
         &mut self,
@@ -215,7 +219,8 @@ impl Talk {
         }
     }
 
-    /// What comes of a session whose stream would have to wait, where nobody waits for it: that counts as a failure of the stream.
+    /// What comes of a session whose stream would have to wait, where nobody waits for it: that counts as
+    /// a failure of the stream.
     pub(crate) fn give_up<N: Node>(&self, stage: Stage) -> Result<Ended, SessionFault>
         requires { CanWait stage self.now.session }
         ensures { (first now : N) (unread unread' held held' : Option (List ℕ))

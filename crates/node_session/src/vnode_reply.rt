@@ -17,8 +17,9 @@ use riak_msgs::{GetAsk, Reply, Text};
 use std::alloc::Global;
 use vnode_core::{Answer, Ask, Plan, Reaped, Vnode, sweep};
 
-/// The reply for a vnode's answer to a change. No request asks for a reap, and one is replied to as a delete is; of a vnode that is
-/// closed, or that was asked for a copy, it is the error `moved`. It takes no memory.
+/// The reply for a vnode's answer to a change. No request asks for a reap, and one is replied to as a
+/// delete is; of a vnode that is closed, or that was asked for a copy, it is the error `moved`. It takes
+/// no memory.
 #[inline(always)]
 pub fn answer_reply(answer: Answer) -> Reply
     ensures { result ≡ answer_reply answer }

@@ -43,8 +43,8 @@ impl Call {
         }
     }
 
-    /// What the vnode is asked to change, as a copy; none of a get. The call itself stays with the worker, which asks again
-    /// where it puts the state back before it has published.
+    /// What the vnode is asked to change, as a copy; none of a get. The call itself stays with the
+    /// worker, which asks again where it puts the state back before it has published.
     pub(crate) fn change(&self, alloc: Global) -> Result<Option<Ask>, AllocError>
         ensures { IfOk result (IsChangeOf self.now) }
     {

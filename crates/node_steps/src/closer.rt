@@ -3,7 +3,8 @@
 ghost use Rattle.std.specs.Prelude.{◌≡◌};
 ghost use Rattle.node_steps.specs.World.{Closing};
 ghost use Rattle.node_steps.specs.Steps.{Enters, Leaves, Takes, Puts};
-ghost use Rattle.node_steps.specs.Running.{CanCountReader, close_stage_of, phase_of, vnode_of, Turns};
+ghost use Rattle.node_steps.specs.Running.{CanCountReader, close_stage_of, phase_of, vnode_of};
+ghost use Rattle.node_steps.specs.Running.{Turns};
 
 use crate::acts::lay;
 use crate::close_stage::CloseStage;

@@ -1,7 +1,8 @@
 //! The steps of a closer that are about two sites: its look at both, and its publish.
 
 ghost use Rattle.std.specs.Prelude.{◌≡◌, ◌<◌, length, slice_set, IfOk, IfErr};
-ghost use Rattle.node_steps.specs.Closings.{ClosesTo, IsPrimaryFor, JudgesTo, CloserLooksTo, WorkerMoves, ground_of};
+ghost use Rattle.node_steps.specs.Closings.{ClosesTo, IsPrimaryFor, JudgesTo, CloserLooksTo};
+ghost use Rattle.node_steps.specs.Closings.{WorkerMoves, ground_of};
 ghost use Rattle.node_steps.specs.Parts.{world_in};
 ghost use Rattle.node_steps.specs.World.{Closing, CloseInside};
 ghost use Rattle.node_steps.specs.Running.{close_stage_of, phase_of};
@@ -16,8 +17,9 @@ use crate::planned_close::PlannedClose;
 use crate::step::Act;
 use std::alloc::Global;
 
-/// A closer looks at the primary, with the fallback's state in its hand. It is done where the fallback is closed, or where a key isn't
-/// copied as it is now; else it plans the close, with the number of the commands that the primary has accepted.
+/// A closer looks at the primary, with the fallback's state in its hand. It is done where the fallback is
+/// closed, or where a key isn't copied as it is now; else it plans the close, with the number of the
+/// commands that the primary has accepted.
 fn judge(alloc: Global, primary: &Hand, own: usize, from: usize, hand: Box<Hand>) -> Looked
     ensures ok { IfOk result (λ r.
         JudgesTo own from hand.value.state primary.now.state (phase_of r.0) r.1) }
@@ -65,8 +67,9 @@ impl Parts {
         }
     }
 
-    /// A closer looks at both sites, the one at the first index with the state of the one at the second in its hand. Where memory is
-    /// refused it is as it was. In every world that is kept the primary's state is in place then.
+    /// A closer looks at both sites, the one at the first index with the state of the one at the second
+    /// in its hand. Where memory is refused it is as it was. In every world that is kept the primary's
+    /// state is in place then.
     fn look_at_both(&self, alloc: Global, own: usize, from: usize, stage: CloseStage) -> Looked
         ensures ok { IfOk result (λ r.
             CloserLooksTo (ground_of self.now) own from (close_stage_of stage) (phase_of r.0) r.1) }
@@ -84,8 +87,8 @@ impl Parts {
         }
     }
 
-    /// A closer publishes its close: the partition's calls go to its own site again, and its next fallback is opened behind the last
-    /// epoch of this one. It takes no memory.
+    /// A closer publishes its close: the partition's calls go to its own site again, and its next
+    /// fallback is opened behind the last epoch of this one. It takes no memory.
     fn publish_close(
         &mut self,
         alloc: Global,

@@ -188,8 +188,8 @@ fn sync(
     }
 }
 
-/// Looks at the state in place at the fallback, or at the primary's in hand. Where memory is refused the copier is as it was. In
-/// every world that is kept the state is in place where a reader is inside.
+/// Looks at the state in place at the fallback, or at the primary's in hand. Where memory is refused the
+/// copier is as it was. In every world that is kept the state is in place where a reader is inside.
 pub(crate) fn look(
     alloc: Global,
     site: &Site,

@@ -45,8 +45,9 @@ fn is_free(sites: &[Site], workers: &[Phase], index: usize) -> bool
 }
 
 impl Parts {
-    /// The id of a fallback for a partition, and the epoch that it is opened behind, where it can be diverted: its calls go to its
-    /// own site, and no worker has to do with it, so that the state is in place.
+    /// The id of a fallback for a partition, and the epoch that it is opened behind, where it can be
+    /// diverted: its calls go to its own site, and no worker has to do with it, so that the state is in
+    /// place.
     fn next_fallback(&self, own: usize) -> Option<(u64, u32)>
         ensures { MayDivert self.now own result }
     {
@@ -65,7 +66,8 @@ impl Parts {
         }
     }
 
-    /// A partition is diverted: its calls go to a fallback at a new site from then on. Where memory is refused nothing changes.
+    /// A partition is diverted: its calls go to a fallback at a new site from then on. Where memory is
+    /// refused nothing changes.
     pub(crate) fn divert(&mut self, alloc: Global, index: u16) -> Result<Outcome, StepFault>
         ensures ok { IfOk result (λ outcome.
             TakesFitStep self.old (Diverts index) outcome self.new) }

@@ -143,8 +143,8 @@ impl Hand {
         }
     }
 
-    /// How many keys a fallback has that this primary hasn't as they are there now; at most 18,446,744,073,709,551,615. Refused where
-    /// memory is.
+    /// How many keys a fallback has that this primary hasn't as they are there now; at most
+    /// 18,446,744,073,709,551,615. Refused where memory is.
     pub(crate) fn left_of(&self, alloc: Global, fallback: &Hand) -> Result<u64, AllocError>
         ensures { IfOk result (λ count. count
             ≡ min (left_in self.now.state fallback.now.state) (2 ^ 64 - 1)) }
@@ -152,8 +152,8 @@ impl Hand {
         count_left(alloc, &self.vnode, &fallback.vnode)
     }
 
-    /// Prepares a copy of a key with this clock; none where it is stuck, or the vnode is closed. Where memory is refused nothing is
-    /// prepared.
+    /// Prepares a copy of a key with this clock; none where it is stuck, or the vnode is closed. Where
+    /// memory is refused nothing is prepared.
     pub(crate) fn plan_copy(
         &mut self,
         alloc: Global,
@@ -198,7 +198,8 @@ impl Hand {
         }
     }
 
-    /// Looks for a call at a vnode that isn't closed: answers it, or plans its change. Where memory is refused nothing is planned.
+    /// Looks for a call at a vnode that isn't closed: answers it, or plans its change. Where memory is
+    /// refused nothing is planned.
     pub(crate) fn look(&mut self, alloc: Global, call: &Call) -> Result<Option<Outcome>, StepFault>
         requires plan { self.old.plan ≡ None }
         requires opened { self.old.state.closed ≡ None }

@@ -1,41 +1,51 @@
 //! The pure core of all schedules: workers over vnodes, step by step, in any order.
 //!
-//! A world (`specs/World`) has for each site a vnode: a word (how many readers are inside and whether it is marked, or that it is
-//! taken), the log of what it accepted, whose commands are its history, and the state in place; for each worker a phase with its
-//! call, the state in its hand and its plan, and for each site the front of the log that it has seen. A call is for a
-//! partition, and one function (`route`) says to which site it goes: to that of the partition's own vnode, its primary, or, where
-//! the partition is diverted, to that of a fallback. A step is one partition's, which is diverted, or one worker's, at one site
-//! (`specs/Steps`): it gets a call, enters as a reader or leaves, marks the word or takes the mark away, takes the state into its
-//! hand or puts it back, looks, or publishes its plan. A look is a step of the vnode machine in the state shown: it answers, or
-//! what the machine accepts becomes the plan. A step that isn't possible changes nothing.
+//! A world (`specs/World`) has for each site a vnode: a word (how many readers are inside and whether it
+//! is marked, or that it is taken), the log of what it accepted, whose commands are its history, and the
+//! state in place; for each worker a phase with its call, the state in its hand and its plan, and for
+//! each site the front of the log that it has seen. A call is for a partition, and one function (`route`)
+//! says to which site it goes: to that of the partition's own vnode, its primary, or, where the partition
+//! is diverted, to that of a fallback. A step is one partition's, which is diverted, or one worker's, at
+//! one site (`specs/Steps`): it gets a call, enters as a reader or leaves, marks the word or takes the
+//! mark away, takes the state into its hand or puts it back, looks, or publishes its plan. A look is a
+//! step of the vnode machine in the state shown: it answers, or what the machine accepts becomes the
+//! plan. A step that isn't possible changes nothing.
 //!
-//! A worker may also be a copier, of a key of a partition that is diverted: as a reader at the fallback it keeps the key's clock, and
-//! stays inside; it takes the primary's state, looks, and publishes the copy, which is an entry of the primary's log and no event of
-//! its history; then it puts the state back and leaves. What the copy brings is the commands that it has seen at the fallback
-//! (`brought_by`), which nobody changes while it is inside.
+//! A worker may also be a copier, of a key of a partition that is diverted: as a reader at the fallback
+//! it keeps the key's clock, and stays inside; it takes the primary's state, looks, and publishes the
+//! copy, which is an entry of the primary's log and no event of its history; then it puts the state back
+//! and leaves. What the copy brings is the commands that it has seen at the fallback (`brought_by`),
+//! which nobody changes while it is inside.
 //!
-//! Or it is a closer of a partition's fallback: it takes the fallback's state, enters the primary as a reader, looks at both, and
-//! publishes the close where the primary has every key as it is at the fallback; from then on the partition's calls go to the primary,
-//! and who finds the fallback closed is turned away to there. Its look and its publish are the two steps that are about two sites
-//! (`closes` in `specs/Steps`); all else is a turn at one.
+//! Or it is a closer of a partition's fallback: it takes the fallback's state, enters the primary as a
+//! reader, looks at both, and publishes the close where the primary has every key as it is at the
+//! fallback; from then on the partition's calls go to the primary, and who finds the fallback closed is
+//! turned away to there. Its look and its publish are the two steps that are about two sites (`closes` in
+//! `specs/Steps`); all else is a turn at one.
 //!
-//! A vnode has its id and the epoch that it was opened behind in its own record, and is found by its site in a list; of a site that
-//! it doesn't know a worker has seen nothing. So sites may be added while a world runs: what is always true of a vnode
-//! (`proofs/Inside`, `IsSound`) speaks of one vnode, and is true of a fresh one, whatever epochs were given before it, and
-//! whatever its log. That a log of commands alone has a replay is said apart (`IsPlain`).
+//! A vnode has its id and the epoch that it was opened behind in its own record, and is found by its site
+//! in a list; of a site that it doesn't know a worker has seen nothing. So sites may be added while a
+//! world runs: what is always true of a vnode (`proofs/Inside`, `IsSound`) speaks of one vnode, and is
+//! true of a fresh one, whatever epochs were given before it, and whatever its log. That a log of
+//! commands alone has a replay is said apart (`IsPlain`).
 //!
-//! [`always`] is the theorem, over every schedule (`specs/Claims`). Its proof goes step by step: `proofs/Turns` derives what a
-//! turn makes of its worker and its vnode, and what comes of it (`proofs/Coming`), from the machine's step; of a copier in
-//! `proofs/CopyTurns`, of a closer and of who is turned away in `proofs/CloseTurns`; `proofs/Kept` counts readers and holders, so that
-//! what is always true stays so, `proofs/CloseSteps` and `proofs/Closes` at the two steps of two sites, `proofs/Diverting` where a
-//! partition is diverted. `proofs/Lifting`, `proofs/Leaving` and `proofs/Showing` draw the claims; `proofs/Judged` keeps what a closer
-//! has seen until it publishes. `proofs/Coursing` and those behind it make each run of a partition a course of `copy_laws`
-//! ([`runs_are_courses`], `specs/Courses`): by a step at one site in `proofs/CourseSteps`, by a close in `proofs/CourseCloses`, by a
-//! diversion in `proofs/CourseDiverts`; the law's partition isn't known until the run is over, so all is said of each partition that
-//! agrees so far, and what needs contexts of each key for which those that were given had been shown. `proofs/Joined` draws from the laws what holds of it: what replies tell at the primary in `proofs/Telling`, that its log
-//! is legal in `proofs/Lawful`, joint siblings in `proofs/CourseJoins`, dots in `proofs/OneDot`; `proofs/Moments` goes from one moment
-//! to a later one. `proofs/CallsApart` and `proofs/Uncopied` keep calls and copies apart: a partition that is diverted is asked nothing
-//! but at its fallback, to which nothing is copied (`proofs/FallbackLogs`).
+//! [`always`] is the theorem, over every schedule (`specs/Claims`). Its proof goes step by step:
+//! `proofs/Turns` derives what a turn makes of its worker and its vnode, and what comes of it
+//! (`proofs/Coming`), from the machine's step; of a copier in `proofs/CopyTurns`, of a closer and of who
+//! is turned away in `proofs/CloseTurns`; `proofs/Kept` counts readers and holders, so that what is
+//! always true stays so, `proofs/CloseSteps` and `proofs/Closes` at the two steps of two sites,
+//! `proofs/Diverting` where a partition is diverted. `proofs/Lifting`, `proofs/Leaving` and
+//! `proofs/Showing` draw the claims; `proofs/Judged` keeps what a closer has seen until it publishes.
+//! `proofs/Coursing` and those behind it make each run of a partition a course of `copy_laws`
+//! ([`runs_are_courses`], `specs/Courses`): by a step at one site in `proofs/CourseSteps`, by a close in
+//! `proofs/CourseCloses`, by a diversion in `proofs/CourseDiverts`; the law's partition isn't known until
+//! the run is over, so all is said of each partition that agrees so far, and what needs contexts of each
+//! key for which those that were given had been shown. `proofs/Joined` draws from the laws what holds of
+//! it: what replies tell at the primary in `proofs/Telling`, that its log is legal in `proofs/Lawful`,
+//! joint siblings in `proofs/CourseJoins`, dots in `proofs/OneDot`; `proofs/Moments` goes from one moment
+//! to a later one. `proofs/CallsApart` and `proofs/Uncopied` keep calls and copies apart: a partition
+//! that is diverted is asked nothing but at its fallback, to which nothing is copied
+//! (`proofs/FallbackLogs`).
 //!
 //! One exchange, of three workers over one vnode (`proofs/Rows` evaluates it):
 //!
@@ -52,9 +62,10 @@
 //!
 //! A world may be kept without its histories: no step looks at them ([`needs_no_history`], `specs/Erased`).
 //!
-//! A [`World`] runs it: [`World::step`] takes any step, and what it returns and the world after it are those of the
-//! theorem's world, whatever schedule led there (`specs/Kept`). What a worker does is told at one site by its turn, and of a closer's
-//! look and publish over all that runs but the workers (`specs/Closings`); `proofs/Taking` makes of it the step of the theorem's world.
+//! A [`World`] runs it: [`World::step`] takes any step, and what it returns and the world after it are
+//! those of the theorem's world, whatever schedule led there (`specs/Kept`). What a worker does is told
+//! at one site by its turn, and of a closer's look and publish over all that runs but the workers
+//! (`specs/Closings`); `proofs/Taking` makes of it the step of the theorem's world.
 #![tactic(auto)]
 
 mod acts;

@@ -54,8 +54,8 @@ fn look_in_hand(alloc: Global, index: usize, call: Call, mut hand: Box<Hand>) ->
     }
 }
 
-/// A holder looks at the state in its hand, of which it has planned nothing. Where the vnode is closed it is turned away, to its
-/// partition's own site.
+/// A holder looks at the state in its hand, of which it has planned nothing. Where the vnode is closed it
+/// is turned away, to its partition's own site.
 fn look_held(alloc: Global, own: usize, index: usize, call: Call, hand: Box<Hand>) -> Looked
     requires { hand.value.plan ≡ None }
     ensures ok { IfOk result (λ r.
@@ -70,8 +70,8 @@ fn look_held(alloc: Global, own: usize, index: usize, call: Call, hand: Box<Hand
     look_in_hand(alloc, index, call, hand)
 }
 
-/// Looks at the state in place or in hand. Where memory is refused the worker is as it was. In every world that is kept the
-/// state is in place where a reader is inside.
+/// Looks at the state in place or in hand. Where memory is refused the worker is as it was. In every
+/// world that is kept the state is in place where a reader is inside.
 pub(crate) fn look(alloc: Global, site: &Site, phase: Phase) -> Looked
     ensures ok { IfOk result (λ r. IsFit (vnode_of site.now).word (phase_of phase)
         → Turns Looks (vnode_of site.now) (phase_of phase) (vnode_of site.now) (phase_of r.0) r.1) }

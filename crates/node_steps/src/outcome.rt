@@ -17,15 +17,18 @@ pub enum Outcome {
     Reply(Reply),
     /// It answered the worker's reap: the key is forgotten.
     Reaped,
-    /// It answered the worker's reap: the key isn't dead, and stays as it is; or a copier: the fallback doesn't hold the key.
+    /// It answered the worker's reap: the key isn't dead, and stays as it is; or a copier: the fallback
+    /// doesn't hold the key.
     Kept,
     /// The key was copied back.
     Copied,
-    /// The key isn't copied: with the copy it would have too many siblings at the primary, or its clock too many actors.
+    /// The key isn't copied: with the copy it would have too many siblings at the primary, or its clock
+    /// too many actors.
     Stuck,
     /// The fallback is closed: a call goes on to the primary, and a copier or a closer is done.
     Elsewhere,
-    /// The fallback isn't closed: so many of its keys aren't copied as they are now. At most 18,446,744,073,709,551,615 are told.
+    /// The fallback isn't closed: so many of its keys aren't copied as they are now. At most
+    /// 18,446,744,073,709,551,615 are told.
     Left(u64),
 }
 

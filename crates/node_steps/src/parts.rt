@@ -1,9 +1,11 @@
 //! The running parts of a world, and what each kind of step does to them.
 
 ghost use Rattle.std.specs.Prelude.{◌≡◌, ◌<◌, length, IfOk, IfErr, OnErr};
-ghost use Rattle.node_steps.specs.Asked.{action_of, asking_step, closing_step, copying_step, step_by, step_of};
+ghost use Rattle.node_steps.specs.Asked.{action_of, asking_step, closing_step, copying_step};
+ghost use Rattle.node_steps.specs.Asked.{step_by, step_of};
 ghost use Rattle.node_steps.specs.Closings.{WorkerMoves, MovesAt, TurnsAt, ground_of};
-ghost use Rattle.node_steps.specs.Parts.{Finds, FindsIdle, FindsIdleAndFallback, HasFallbackSite, IsFit, SendsTo, TakesFitStep, TakesRunStep, world_in};
+ghost use Rattle.node_steps.specs.Parts.{Finds, FindsIdle, FindsIdleAndFallback, HasFallbackSite};
+ghost use Rattle.node_steps.specs.Parts.{IsFit, SendsTo, TakesFitStep, TakesRunStep, world_in};
 ghost use Rattle.node_steps.specs.Running.{ask_of, phase_of, vnode_of, Turns};
 
 use crate::acts::{enter, leave, mark, put, take, unmark};
@@ -20,8 +22,8 @@ use riak_msgs::{Key, Request};
 use std::alloc::{AllocError, Global};
 use std::mem;
 
-/// What runs: the vnode at each site, for each partition the site that its calls go to and the last epoch that its fallbacks gave
-/// before they were closed, and the phase of each worker.
+/// What runs: the vnode at each site, for each partition the site that its calls go to and the last epoch
+/// that its fallbacks gave before they were closed, and the phase of each worker.
 #[derive(Drop)]
 pub(crate) struct Parts {
     pub(crate) sites: Vec<Site>,
@@ -100,7 +102,8 @@ impl Parts {
         }
     }
 
-    /// What a worker in a phase does, whose step is about the site of an index. Where memory is refused nothing changes.
+    /// What a worker in a phase does, whose step is about the site of an index. Where memory is refused
+    /// nothing changes.
     fn move_on(&mut self, alloc: Global, act: Act, index: usize, phase: Phase) -> Looked
         requires { index < length self.old.sites.items }
         ensures ok { IfOk result (λ r.
@@ -168,8 +171,8 @@ impl Parts {
         }
     }
 
-    /// The site that a call for a partition goes to; none where there is no such partition, and for a reap of one that is
-    /// diverted.
+    /// The site that a call for a partition goes to; none where there is no such partition, and for a
+    /// reap of one that is diverted.
     fn site_for(&self, index: u16, call: &Call) -> Option<usize>
         ensures { SendsTo self.now index (ask_of call.now) result }
     {

@@ -10,7 +10,8 @@ use crate::hand::Hand;
 use crate::stage::Stage;
 use riak_msgs::{GetAsk, Key};
 
-/// What a worker is about; its call goes to the site of the index. Where two sites are named, the first is its partition's own.
+/// What a worker is about; its call goes to the site of the index. Where two sites are named, the first
+/// is its partition's own.
 #[derive(Drop)]
 pub(crate) enum Phase {
     /// It has no call.
@@ -23,8 +24,8 @@ pub(crate) enum Phase {
     Holding(usize, Call, Box<Hand>),
     /// Its call is answered, and it is inside as a reader, or with the state in its hand.
     Done(usize, Option<Box<Hand>>),
-    /// It has found the vnode at the second site closed, and is inside there as a reader, or with the state in its hand; then its
-    /// call is for the first.
+    /// It has found the vnode at the second site closed, and is inside there as a reader, or with the
+    /// state in its hand; then its call is for the first.
     Turned(usize, usize, Call, Option<Box<Hand>>),
     /// It copies a key to the site of the first index from that of the second.
     Copying(usize, usize, Box<Key>, Stage),
@@ -49,7 +50,8 @@ impl Phase {
         }
     }
 
-    /// Whether the worker has a call at the site of this index, or is turned away from there or to there, or copies or closes from it or to it.
+    /// Whether the worker has a call at the site of this index, or is turned away from there or to there,
+    /// or copies or closes from it or to it.
     pub(crate) fn is_about(&self, site: usize) -> bool
         ensures { result ≡ is_about site (phase_of self.now) }
     {

@@ -7,7 +7,8 @@ use crate::hand::Hand;
 use std::alloc::Global;
 use std::marker::Model;
 
-/// A vnode in hand that isn't closed, and the number that its close is to carry. Contracts see its state and the number.
+/// A vnode in hand that isn't closed, and the number that its close is to carry. Contracts see its state
+/// and the number.
 pub(crate) struct PlannedClose {
     hand: Box<Hand>,
     number: u64,

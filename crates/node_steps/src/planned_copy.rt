@@ -7,7 +7,8 @@ use crate::hand::Hand;
 use std::marker::Model;
 use vnode_core::Change;
 
-/// A copy that the vnode in hand has prepared. Contracts see the vnode's state, the clock that is copied and the state after it.
+/// A copy that the vnode in hand has prepared. Contracts see the vnode's state, the clock that is copied
+/// and the state after it.
 pub(crate) struct PlannedCopy {
     hand: Box<Hand>,
     change: Change,

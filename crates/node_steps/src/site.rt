@@ -9,9 +9,9 @@ use crate::hand::Hand;
 use std::alloc::{AllocError, Global};
 use vnode_core::Vnode;
 
-/// A vnode's word, with the state where it is in place; a state that isn't in place is in the hand of the worker that took
-/// it. How many readers are inside and whether the word is marked mean nothing then. `own` is the own site of the vnode's
-/// partition.
+/// A vnode's word, with the state where it is in place; a state that isn't in place is in the hand of the
+/// worker that took it. How many readers are inside and whether the word is marked mean nothing then.
+/// `own` is the own site of the vnode's partition.
 #[derive(Drop)]
 pub(crate) struct Site {
     pub(crate) own: usize,
@@ -20,7 +20,8 @@ pub(crate) struct Site {
     pub(crate) place: Option<Box<Hand>>,
 }
 
-/// A vnode of an id, before any event, in place: of the partition of this own site, opened behind the epoch that was given last.
+/// A vnode of an id, before any event, in place: of the partition of this own site, opened behind the
+/// epoch that was given last.
 pub(crate) fn new_site(
     alloc: Global,
     id: u64,

@@ -6,7 +6,8 @@ use crate::copies::copy_of_request;
 use riak_msgs::{Key, Request};
 use std::alloc::{AllocError, Global};
 
-/// What happens next: a worker does something, or a partition is diverted. Workers are numbered from 1, partitions from 0.
+/// What happens next: a worker does something, or a partition is diverted. Workers are numbered from 1,
+/// partitions from 0.
 #[derive(Drop)]
 pub enum Step {
     /// The worker gets a call: what a client asks of the partition of this index.

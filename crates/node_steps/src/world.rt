@@ -17,15 +17,15 @@ use crate::step::Step;
 use std::alloc::{AllocError, Global};
 use std::marker::Model;
 
-/// Workers over vnodes, which take one step at a time in any order. Contracts see the world of [`always`](crate::always)
-/// without its histories, which no step needs.
+/// Workers over vnodes, which take one step at a time in any order. Contracts see the world of
+/// [`always`](crate::always) without its histories, which no step needs.
 ///
 /// One of three workers and one vnode, which is asked for b/k:
 ///
-/// - 1 is asked a get and enters. 2 is asked a put of "v" and marks the word; then 3, which is asked a get, can't enter, and
-///   2 can't take the state, since 1 is inside.
-/// - 1 looks, which shows that the key is absent, and leaves. 2 takes the state, and looks: its put is planned. It publishes,
-///   and the put is answered.
+/// - 1 is asked a get and enters. 2 is asked a put of "v" and marks the word; then 3, which is asked a
+///   get, can't enter, and 2 can't take the state, since 1 is inside.
+/// - 1 looks, which shows that the key is absent, and leaves. 2 takes the state, and looks: its put is
+///   planned. It publishes, and the put is answered.
 /// - 3 can't enter until 2 has put the state back. Then it enters, looks, and sees "v".
 pub struct World {
     parts: Parts,
@@ -97,8 +97,9 @@ fn new_workers(alloc: Global, workers: u16) -> Result<Vec<Phase>, AllocError>
 }
 
 impl World {
-    /// A world of so many workers, which have no call, and so many partitions of a run, none of which is diverted, before any
-    /// event: the vnode of the partition at an index has the id `run * 65536 + index`.
+    /// A world of so many workers, which have no call, and so many partitions of a run, none of which is
+    /// diverted, before any event: the vnode of the partition at an index has the id `run * 65536 +
+    /// index`.
     pub fn new(alloc: Global, workers: u16, vnodes: u16, run: u32) -> Result<World, StepFault>
         ensures { IfOk result (λ world. world ≡ erase (opening_world run workers vnodes)) }
     {
@@ -112,10 +113,12 @@ impl World {
         })
     }
 
-    /// Takes a step, and returns its outcome, which is `No` exactly where it isn't possible. Where memory is refused nothing changes.
+    /// Takes a step, and returns its outcome, which is `No` exactly where it isn't possible. Where memory
+    /// is refused nothing changes.
     ///
-    /// A look copies what it shows, and what it plans, a copier's the key's clock, a closer's one key after another; a call, and a copier's key, is kept on the heap; a
-    /// fallback takes a place. All else takes no memory.
+    /// A look copies what it shows, and what it plans, a copier's the key's clock, a closer's one key
+    /// after another; a call, and a copier's key, is kept on the heap; a fallback takes a place. All else
+    /// takes no memory.
     pub fn step(&mut self, alloc: Global, step: Step) -> Result<Outcome, StepFault>
         ensures step { IfOk result (λ outcome.
             TakesRunStep self.old (step_of step) outcome self.new) }
@@ -126,8 +129,8 @@ impl World {
         self.parts.step(alloc, step)
     }
 
-    /// Makes room for the outcomes, and takes the steps in their order, each as a copy. Where memory is refused for a step
-    /// those before it are taken.
+    /// Makes room for the outcomes, and takes the steps in their order, each as a copy. Where memory is
+    /// refused for a step those before it are taken.
     pub fn run(&mut self, alloc: Global, steps: &[Step]) -> Result<Vec<Outcome>, StepFault>
         ensures ok { IfOk result (λ outcomes.
             FollowsAll self.old steps.now outcomes.items self.new) }

@@ -26,8 +26,9 @@ pub enum AskOutcome<P, F> {
     Full,
 }
 
-/// Asks once, by the pass, under a right to write of its own: waits until the state is in hand, looks, plans what is asked,
-/// publishes the change, and gives the right back. Memory is taken by the state's own `prepare` alone.
+/// Asks once, by the pass, under a right to write of its own: waits until the state is in hand, looks,
+/// plans what is asked, publishes the change, and gives the right back. Memory is taken by the state's
+/// own `prepare` alone.
 pub fn ask<S: Kept, R: Wait>(
     rt: &R,
     alloc: Global,

@@ -2,7 +2,8 @@
 use crate::kept::{Kept, Plan};
 use std::alloc::Global;
 
-/// A number. To raise it by 0 changes nothing and answers the number; past 18,446,744,073,709,551,615 an ask is refused.
+/// A number. To raise it by 0 changes nothing and answers the number; past 18,446,744,073,709,551,615 an
+/// ask is refused.
 #[derive(Drop)]
 pub struct GatedCounter {
     pub value: u64,

@@ -39,15 +39,16 @@ const MAX_AWAKE_ATTEMPTS: u32 = 16;
 /// | `gate.try_read()`, `gate.try_write()` | `None`, `None`: `bob` is in | | |
 /// | `right.release()`, then `gate.try_write()` | a right, and so on | 5, in hand | |
 ///
-/// A state that is put back is unmarked. At most `MOST_READERS`, 1,073,741,823, are in at once, and an entry past them is refused.
-/// The gate is `Send` and `Sync` where the state is.
+/// A state that is put back is unmarked. At most `MOST_READERS`, 1,073,741,823, are in at once, and an
+/// entry past them is refused. The gate is `Send` and `Sync` where the state is.
 pub struct Gate<S: Kept> {
     slot: Counted<Option<SlotValue<S>>>,
     pub(crate) word: Length<S>,
     start: SeenLog<S>,
     /// Held by the one reader that goes on attempting, while further ones that wait sleep.
     read_turn: Mutex<()>,
-    /// The same for writers. Were it one turn for both, a reader that waits for a mark to go would keep out the writer that ends it.
+    /// The same for writers. Were it one turn for both, a reader that waits for a mark to go would keep
+    /// out the writer that ends it.
     write_turn: Mutex<()>,
 }
 
@@ -81,7 +82,8 @@ impl<S: Kept> Model for Gate<S> {
 }
 
 impl<S: Kept> Gate<S> {
-    /// A gate round a state that has no history yet. It takes memory for the state's place, and the state is given back where there is none.
+    /// A gate round a state that has no history yet. It takes memory for the state's place, and the state
+    /// is given back where there is none.
     pub fn new(alloc: Global, state: S) -> Result<Gate<S>, S>
         ensures ok { IfOk result (λ g. g.opening ≡ Some state) }
         ensures err { IfErr result (λ s. s ≡ state) }
@@ -132,8 +134,8 @@ impl<S: Kept> Gate<S> {
         Pass::new(&self.start)
     }
 
-    /// One attempt to come in as a reader. `None` where a writer is in, where the state is marked, where `MOST_READERS` are in, and
-    /// where another call came between.
+    /// One attempt to come in as a reader. `None` where a writer is in, where the state is marked, where
+    /// `MOST_READERS` are in, and where another call came between.
     pub fn try_read(&self) -> Option<ReadRight<'_, S>>
         ensures gate { IfSome result (λ r. r.gate ≡ self.now) }
         ensures state { IfSome result (IsReplayed S.content S.accepts) }
@@ -148,7 +150,8 @@ impl<S: Kept> Gate<S> {
         ReadRight::new(self, claim)
     }
 
-    /// One attempt to take the state in hand, marked or not. `None` where a reader or a writer is in, and where another call came between.
+    /// One attempt to take the state in hand, marked or not. `None` where a reader or a writer is in, and
+    /// where another call came between.
     pub fn try_write(&self) -> Option<WriteRight<'_, S>>
         ensures gate { IfSome result (λ r. r.gate ≡ self.now) }
         ensures state { IfSome result (IsReplayed S.content S.accepts) }
@@ -169,8 +172,9 @@ impl<S: Kept> Gate<S> {
 
     /// One attempt to mark the state, so that no further reader comes in, and whether it did. Who reads stays.
     ///
-    /// No clause speaks of the answer: a compare-exchange that was made and one that wasn't leave the same claim here, which has no
-    /// right, and what word the slot holds stands in no clause. `words` says which word is to follow, and when the exchange was made.
+    /// No clause speaks of the answer: a compare-exchange that was made and one that wasn't leave the
+    /// same claim here, which has no right, and what word the slot holds stands in no clause. `words`
+    /// says which word is to follow, and when the exchange was made.
     pub fn mark(&self) -> bool {
         let word = self.slot.load();
         let Some(marked) = words::marked(word) else {
@@ -206,7 +210,8 @@ impl<S: Kept> Gate<S> {
         None
     }
 
-    /// Waits until it may read: attempts, again and again. Of many readers that wait long one goes on attempting, and the others sleep.
+    /// Waits until it may read: attempts, again and again. Of many readers that wait long one goes on
+    /// attempting, and the others sleep.
     pub fn read<R: Wait>(&self, rt: &R) -> ReadRight<'_, S>
         ensures gate { result.gate ≡ self.now }
         ensures state { IsReplayed S.content S.accepts result }
@@ -223,7 +228,8 @@ impl<S: Kept> Gate<S> {
         unreachable!()
     }
 
-    /// A few attempts to take the state in hand, each of which marks the state where it fails. Between them other threads may run.
+    /// A few attempts to take the state in hand, each of which marks the state where it fails. Between
+    /// them other threads may run.
     fn try_write_awake(&self) -> Option<WriteRight<'_, S>>
         ensures gate { IfSome result (λ r. r.gate ≡ self.now) }
         ensures state { IfSome result (IsReplayed S.content S.accepts) }
@@ -238,8 +244,9 @@ impl<S: Kept> Gate<S> {
         None
     }
 
-    /// Waits until it has the state in hand. While it attempts it marks the state, wherever it finds it unmarked, so that readers
-    /// leave and none comes. Of many writers that wait long one goes on attempting, and the others sleep.
+    /// Waits until it has the state in hand. While it attempts it marks the state, wherever it finds it
+    /// unmarked, so that readers leave and none comes. Of many writers that wait long one goes on
+    /// attempting, and the others sleep.
     pub fn write<R: Wait>(&self, rt: &R) -> WriteRight<'_, S>
         ensures gate { result.gate ≡ self.now }
         ensures state { IsReplayed S.content S.accepts result }
@@ -256,8 +263,8 @@ impl<S: Kept> Gate<S> {
         unreachable!()
     }
 
-    /// Lays a state in place, unmarked. It is given back where the slot is not free, which no path leads to: only the holder of the state
-    /// puts it back.
+    /// Lays a state in place, unmarked. It is given back where the slot is not free, which no path leads
+    /// to: only the holder of the state puts it back.
     pub(crate) fn put_back(&self, value: SlotValue<S>) -> Result<(), SlotValue<S>>
         requires { IsSlotValue S.content S.accepts self.now
             value.seen.book value.seen.log value.count value.state.value }

@@ -1,8 +1,9 @@
 //! A gate round a state: many may read it or one may write it, and each change is one event of one history.
 //!
-//! What it means: each state that is shown is the replay of a prefix of that history (`IsReplay` of `specs/Histories`), the prefix
-//! that the right holds. A caller's `Pass` holds which prefix the caller has seen, and no look shows it an older one. A change is made
-//! at one atomic exchange, `WriteRight::publish`, and the history has then just one event more, with the reply that was answered.
+//! What it means: each state that is shown is the replay of a prefix of that history (`IsReplay` of
+//! `specs/Histories`), the prefix that the right holds. A caller's `Pass` holds which prefix the caller
+//! has seen, and no look shows it an older one. A change is made at one atomic exchange,
+//! `WriteRight::publish`, and the history has then just one event more, with the reply that was answered.
 //!
 //! ```text
 //! let gate = Gate::new(alloc, GatedCounter { value: 0 })?;
@@ -14,20 +15,24 @@
 //! right.release();                    // the counter 5 is in place, and may be read
 //! ```
 //!
-//! [`ask`] is that way in one call, and [`ask_under`] the part of it under a right that the caller has. What came of an ask ([`AskOutcome`],
-//! `specs/Asking`): one that was accepted is the event at one position of the history, behind all that the caller had seen, published once
-//! and the caller's own; one that changes nothing, or that was refused, is so by the machine's state at the end of what the caller has
-//! then seen. `Moved` and `Full` change nothing: the history had gone on past the state under the right, or it can have no further event.
+//! [`ask`] is that way in one call, and [`ask_under`] the part of it under a right that the caller has.
+//! What came of an ask ([`AskOutcome`], `specs/Asking`): one that was accepted is the event at one
+//! position of the history, behind all that the caller had seen, published once and the caller's own; one
+//! that changes nothing, or that was refused, is so by the machine's state at the end of what the caller
+//! has then seen. `Moved` and `Full` change nothing: the history had gone on past the state under the
+//! right, or it can have no further event.
 //!
-//! What it costs: an attempt is a load and an exchange, a look a load, a publish an exchange, a release an atomic step or two. A writer
-//! moves the state out of its place and back. No call but `prepare` takes memory, and none but `Gate::read`, `Gate::write` and `ask` waits:
-//! these attempt again and again, and where many wait for long, one of each goes on attempting and the others sleep.
+//! What it costs: an attempt is a load and an exchange, a look a load, a publish an exchange, a release
+//! an atomic step or two. A writer moves the state out of its place and back. No call but `prepare` takes
+//! memory, and none but `Gate::read`, `Gate::write` and `ask` waits: these attempt again and again, and
+//! where many wait for long, one of each goes on attempting and the others sleep.
 //!
-//! How it is built: the state lies in place in a slot with a counting word (`counted_slot`); the steps of that word are functions, in
-//! `words`. The history exists in the proofs alone; threads share its length, a word under a rule (`logbook`). By the rule the
-//! history is a run of the state's machine, and names no pass and no thread. What lies in the slot knows a prefix of the history and is
-//! its replay, so where the length of that prefix is found in the word, it is the whole history, and the event that was prepared from
-//! the state may follow.
+//! How it is built: the state lies in place in a slot with a counting word (`counted_slot`); the steps of
+//! that word are functions, in `words`. The history exists in the proofs alone; threads share its length,
+//! a word under a rule (`logbook`). By the rule the history is a run of the state's machine, and names no
+//! pass and no thread. What lies in the slot knows a prefix of the history and is its replay, so where
+//! the length of that prefix is found in the word, it is the whole history, and the event that was
+//! prepared from the state may follow.
 #![tactic(auto)]
 
 mod asking;

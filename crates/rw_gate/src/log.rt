@@ -1,5 +1,6 @@
-//! The log of a gate: the state that it was made with, then the events, of which the machine accepts each behind those before it.
-//! It exists in the proofs alone. What threads share is a word, the number of the events.
+//! The log of a gate: the state that it was made with, then the events, of which the machine accepts each
+//! behind those before it. It exists in the proofs alone. What threads share is a word, the number of the
+//! events.
 use crate::kept::Kept;
 use logbook::{Gain, Opening, Plain, Play, Rule, Seen, Word};
 use std::marker::PhantomData;

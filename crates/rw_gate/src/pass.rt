@@ -25,8 +25,8 @@ pub struct Moved {
 
 /// What its holder has seen of a gate's history: a prefix, which only grows.
 ///
-/// For clauses alone a pass also has the positions of the events that it published, its own events. A pass belongs to the gate that gave it.
-/// It may go to another thread.
+/// For clauses alone a pass also has the positions of the events that it published, its own events. A
+/// pass belongs to the gate that gave it. It may go to another thread.
 pub struct Pass<S: Kept> {
     count: u64,
     seen: SeenLog<S>,
@@ -74,8 +74,8 @@ impl<S: Kept> Pass<S> {
         self.count
     }
 
-    /// Whether this pass has seen no more events than another of its gate. Both have seen beginnings of one history, so what the one that
-    /// is behind has seen begins what the other has.
+    /// Whether this pass has seen no more events than another of its gate. Both have seen beginnings of
+    /// one history, so what the one that is behind has seen begins what the other has.
     pub fn is_behind(&self, other: &Pass<S>) -> bool
         requires { other.now.gate ≡ self.now.gate }
         ensures { MatchBool result (IsPrefix self.now.prefix other.now.prefix)
@@ -104,7 +104,8 @@ impl<S: Kept> Pass<S> {
         }
     }
 
-    /// A look beside a state with the `count` events of the log `seen`. They are all there are, or the history has gone on.
+    /// A look beside a state with the `count` events of the log `seen`. They are all there are, or the
+    /// history has gone on.
     pub(crate) fn look(
         &mut self,
         word: &Length<S>,
@@ -152,8 +153,8 @@ impl<S: Kept> Pass<S> {
         found
     }
 
-    /// One exchange, which adds the event of a change behind the `count` events of the log `seen`, whose state is in hand. Gives the
-    /// log with that event, or the history has gone on and stays as it is.
+    /// One exchange, which adds the event of a change behind the `count` events of the log `seen`, whose
+    /// state is in hand. Gives the log with that event, or the history has gone on and stays as it is.
     pub(crate) fn publish(
         &mut self,
         word: &Length<S>,
@@ -192,8 +193,9 @@ impl<S: Kept> Pass<S> {
         Ok(both)
     }
 
-    /// The exchange by one who has seen `both`, which goes on from the log `seen`. Gives the number of events that was found. Where it is
-    /// `count`, `both` was the whole log, and the event of the change stands behind it.
+    /// The exchange by one who has seen `both`, which goes on from the log `seen`. Gives the number of
+    /// events that was found. Where it is `count`, `both` was the whole log, and the event of the change
+    /// stands behind it.
     fn exchange(
         word: &Length<S>,
         state: &S,
@@ -212,7 +214,8 @@ impl<S: Kept> Pass<S> {
         ensures book { both.new.book ≡ both.old.book }
         ensures more { IsPrefix both.old.log both.new.log }
         ensures run { IsRun S.content S.accepts both.new.log }
-        ensures hit { result ≡ count → (both.new.log ≡ both.old.log ++ Made (S.event change.now) ∷ [])
+        ensures hit { result ≡ count
+            → (both.new.log ≡ both.old.log ++ Made (S.event change.now) ∷ [])
             × (length (events both.old.log) ≡ count) }
         ensures missed { result ≢ count → length (events both.new.log) ≡ result }
     {

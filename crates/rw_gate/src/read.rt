@@ -15,8 +15,8 @@ use std::snapshot::Snapshot;
 
 /// The right to look at the state in place, beside others who may.
 ///
-/// It knows a prefix of the history, whose replay the state is: the same state for as long as the right is held. It has to be released,
-/// and stays in its thread.
+/// It knows a prefix of the history, whose replay the state is: the same state for as long as the right
+/// is held. It has to be released, and stays in its thread.
 pub struct ReadRight<'a, S: Kept> {
     gate: &'a Gate<S>,
     claim: Claim<'a, Option<SlotValue<S>>>,
@@ -72,8 +72,9 @@ impl<'a, S: Kept> ReadRight<'a, S> {
         })
     }
 
-    /// Shows the state to a pass of this gate that has seen no more than the history of the state. The pass has then seen just that.
-    /// `Moved` where the history was found to be longer: the pass takes what was found, and no state is shown.
+    /// Shows the state to a pass of this gate that has seen no more than the history of the state. The
+    /// pass has then seen just that. `Moved` where the history was found to be longer: the pass takes
+    /// what was found, and no state is shown.
     pub fn look(&self, pass: &mut Pass<S>) -> Result<&S, Moved>
         requires { pass.old.gate ≡ self.now.gate }
         ensures gate { pass.new.gate ≡ pass.old.gate }

@@ -5,7 +5,8 @@ use crate::kept::Kept;
 use crate::log::SeenLog;
 use counted_slot::Fits;
 
-/// A state in a place of its own, so that what is moved is a pointer, with the log that leads to it, and the number of that log's events.
+/// A state in a place of its own, so that what is moved is a pointer, with the log that leads to it, and
+/// the number of that log's events.
 pub(crate) struct SlotValue<S: Kept> {
     pub state: Box<S>,
     pub seen: SeenLog<S>,

@@ -13,7 +13,8 @@ fn readers(word: u64) -> u64
     word % 0x1_0000_0000 / ONE_READER
 }
 
-/// The word with one reader more. `None` exactly where no reader may come in: nothing is in place, it is marked, or `MOST_READERS` are in.
+/// The word with one reader more. `None` exactly where no reader may come in: nothing is in place, it is
+/// marked, or `MOST_READERS` are in.
 pub(crate) fn entered(word: u64) -> Option<u64>
     ensures entered { IfSome result (Enters word) }
     ensures refused { IfNone result (admits_reader word ≡ false) }

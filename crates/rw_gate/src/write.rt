@@ -74,8 +74,9 @@ impl<'a, S: Kept> WriteRight<'a, S> {
         }
     }
 
-    /// Shows the state in hand to a pass of this gate that has seen no more than the history of the state. The pass has then seen just
-    /// that. `Moved` where the history was found to be longer: the pass takes what was found, and no state is shown.
+    /// Shows the state in hand to a pass of this gate that has seen no more than the history of the
+    /// state. The pass has then seen just that. `Moved` where the history was found to be longer: the
+    /// pass takes what was found, and no state is shown.
     pub fn look(&self, pass: &mut Pass<S>) -> Result<&S, Moved>
         requires { pass.old.gate ≡ self.now.gate }
         ensures gate { pass.new.gate ≡ pass.old.gate }
@@ -109,10 +110,11 @@ impl<'a, S: Kept> WriteRight<'a, S> {
         self.state.prepare(alloc, ask)
     }
 
-    /// Makes the change that was prepared from the state in hand, at one exchange. Its event is the next of the history, behind all that the
-    /// pass had seen, and its reply is answered. The pass has then seen it, and has it as its own.
-    /// `Moved` where the history was found to be longer, and the pass takes what was found. `Full` exactly where the history can have no
-    /// further event. After either the change is let go, and state and history are as they were.
+    /// Makes the change that was prepared from the state in hand, at one exchange. Its event is the next
+    /// of the history, behind all that the pass had seen, and its reply is answered. The pass has then
+    /// seen it, and has it as its own. `Moved` where the history was found to be longer, and the pass
+    /// takes what was found. `Full` exactly where the history can have no further event. After either the
+    /// change is let go, and state and history are as they were.
     pub fn publish(
         &mut self,
         pass: &mut Pass<S>,

@@ -43,7 +43,8 @@ fn gate_step(worker: u16, step: GateStep) -> Step
     }
 }
 
-/// The step of a line: its worker's, and where it asks, reaps or copies for the partition of the key, or closes; or a partition's.
+/// The step of a line: its worker's, and where it asks, reaps or copies for the partition of the key, or
+/// closes; or a partition's.
 fn line_step(ring: Ring, line: Line) -> Step
     ensures { result ≡ line_step ring line }
 {

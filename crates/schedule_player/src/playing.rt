@@ -17,13 +17,15 @@ use std::io::{ErrorKind, Read, Write};
 /// How much is read at a time.
 const PIECE: usize = 4096;
 
-/// Plays the schedule that is read from `reader`, and writes to `writer` a line for each of its lines, and the line of the
-/// comparison with a plain register, which is `plain not compared` where a partition was diverted. `workers` workers, without a call, begin over the vnodes of `ring`, before any event of
+/// Plays the schedule that is read from `reader`, and writes to `writer` a line for each of its lines,
+/// and the line of the comparison with a plain register, which is `plain not compared` where a partition
+/// was diverted. `workers` workers, without a call, begin over the vnodes of `ring`, before any event of
 /// this run.
 ///
-/// A read takes up to 4,096 bytes, and each line that has come is answered before the next read, at the latest. The last line
-/// may lack its line feed. A read, write or flush that is interrupted is tried again; such a read counts as one. The writer
-/// is flushed before each read, at the end, and, as far as that can be done, after a fault.
+/// A read takes up to 4,096 bytes, and each line that has come is answered before the next read, at the
+/// latest. The last line may lack its line feed. A read, write or flush that is interrupted is tried
+/// again; such a read counts as one. The writer is flushed before each read, at the end, and, as far as
+/// that can be done, after a fault.
 ///
 /// Each line is answered before a fault of a later line is returned:
 /// - `BadStep(n)`: line n asks for no step, or n is 100,001.
@@ -38,7 +40,8 @@ pub fn steps_on<R: Read, W: Write>(
     ring: Ring,
     run: u32,
 ) -> Result<(), StepsFault>
-    // What was written is what the theorem's world has for the steps that the lines ask for, as far as a fault lets it come.
+    // What was written is what the theorem's world has for the steps that the lines ask for, as far as a
+    // fault lets it come.
     ensures played { Played (start_on run workers ring) ring
         (R.remaining reader.old) (R.remaining reader.new)
         (W.contents writer.old) (W.contents writer.new) result }

@@ -1,13 +1,15 @@
 //! What the comparison with a plain register is told of a run.
 
-ghost use Rattle.std.specs.Prelude.{◌≡◌, ◌-◌, IfOk, OnOk, Some, map, option_and_then, option_copied};
+ghost use Rattle.std.specs.Prelude.{◌≡◌, ◌-◌, IfOk, OnOk, Some, map, option_and_then};
+ghost use Rattle.std.specs.Prelude.{option_copied};
 ghost use Rattle.std.specs.Option.{option_map_or};
 ghost use Rattle.riak_msgs.specs.Contents.{Content};
 ghost use Rattle.node_steps.specs.Asked.{Context, RegisterAsk};
 ghost use Rattle.node_steps.specs.declared.outcome.Outcome.TheVariants.{Done};
 ghost use Rattle.schedule_text.specs.Compared.{after_call};
 ghost use Rattle.schedule_player.specs.Calls.{after_note, call_in, call_of};
-ghost use Rattle.schedule_player.specs.Heard.{after_act, after_diversion, last_call, nothing_heard, reaped, replied, with_call};
+ghost use Rattle.schedule_player.specs.Heard.{after_act, after_diversion, last_call, nothing_heard};
+ghost use Rattle.schedule_player.specs.Heard.{reaped, replied, with_call};
 
 use crate::asking::{Note, asks};
 use node_steps::{Outcome, Step};
@@ -16,8 +18,8 @@ use schedule_text::{Comparison, Verdict};
 use std::alloc::{AllocError, Global};
 use std::marker::Model;
 
-/// The last call of each worker, and the comparison, which is told of it when it is given and when it is answered. Contracts
-/// see what is heard of a run (`specs/Heard`).
+/// The last call of each worker, and the comparison, which is told of it when it is given and when it is
+/// answered. Contracts see what is heard of a run (`specs/Heard`).
 #[derive(Drop)]
 pub(crate) struct Referee {
     calls: Vec<Option<Box<Step>>>,
@@ -148,8 +150,8 @@ impl Referee {
         keep(&mut self.calls, worker, call);
     }
 
-    /// Takes down what came of the step of a line: the call that its worker got, or the answer to its last one, or that a
-    /// partition was diverted.
+    /// Takes down what came of the step of a line: the call that its worker got, or the answer to its
+    /// last one, or that a partition was diverted.
     ///
     /// Refused where memory is; the referee is then of no more use.
     pub(crate) fn hear(

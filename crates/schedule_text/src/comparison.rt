@@ -3,7 +3,8 @@
 ghost use Rattle.std.specs.Prelude.{◌≡◌, OnOk};
 ghost use Rattle.std.specs.Option.{option_map_or};
 ghost use Rattle.vnode_machine.specs.Asks.{request_ask};
-ghost use Rattle.schedule_text.specs.Compared.{after_call, after_reap, after_reply, not_compared, nothing_compared};
+ghost use Rattle.schedule_text.specs.Compared.{after_call, after_reap, after_reply, not_compared};
+ghost use Rattle.schedule_text.specs.Compared.{nothing_compared};
 
 use crate::plain_ask::{ask_register, reap_plain, within};
 use crate::reply_parts::{context_shown, is_asked, is_due, key_and_context};
@@ -17,15 +18,17 @@ use std::marker::Model;
 
 /// The comparison of a run with a [plain register](sibling_register::PlainRegister), which is asked the same.
 ///
-/// It is told each get, put and delete that a worker gets, and each answer, in the order of the run. The register is asked a
-/// command when that is answered. A context is the position at which a reply of this run first showed its pairs for its key; a
-/// get's `if_modified` is a context too. A put or delete that was refused as bad context, clock full, epochs used up, counter used up
-/// or for want of memory isn't asked, since a register has no such refusals. Compared are the contents of replies, in order, and
-/// the refusals `match_found`, `modified`, `notfound` and `too many siblings`.
+/// It is told each get, put and delete that a worker gets, and each answer, in the order of the run. The
+/// register is asked a command when that is answered. A context is the position at which a reply of this
+/// run first showed its pairs for its key; a get's `if_modified` is a context too. A put or delete that
+/// was refused as bad context, clock full, epochs used up, counter used up or for want of memory isn't
+/// asked, since a register has no such refusals. Compared are the contents of replies, in order, and the
+/// refusals `match_found`, `modified`, `notfound` and `too many siblings`.
 ///
-/// Contracts see what is known of the run (`specs/Compared`). One register stands for all vnodes: what it answers of a key
-/// depends on that key's commands alone, and a key has one vnode as long as its partition isn't diverted. What a command costs doesn't grow with the run, but for the
-/// searches among the keys, a key's events and the contexts that were shown.
+/// Contracts see what is known of the run (`specs/Compared`). One register stands for all vnodes: what it
+/// answers of a key depends on that key's commands alone, and a key has one vnode as long as its
+/// partition isn't diverted. What a command costs doesn't grow with the run, but for the searches among
+/// the keys, a key's events and the contexts that were shown.
 #[derive(Drop)]
 pub struct Comparison {
     register: PlainRegister<Content>,
@@ -64,8 +67,8 @@ impl Comparison {
         self.verdict
     }
 
-    /// Takes a call that a worker got. One that gives a context of the right form that no earlier reply showed for its key ends
-    /// the comparison, whether it is answered later or not.
+    /// Takes a call that a worker got. One that gives a context of the right form that no earlier reply
+    /// showed for its key ends the comparison, whether it is answered later or not.
     pub fn call(&mut self, request: &Request)
         ensures { self.new
             ≡ option_map_or (λ ask. after_call ask self.old) (request_ask request.now) self.old }
@@ -117,7 +120,8 @@ impl Comparison {
         reap_plain(alloc, &mut self.register, key)
     }
 
-    /// Ends the comparison: a partition is diverted, so that two vnodes answer of the same keys, each by a history of its own.
+    /// Ends the comparison: a partition is diverted, so that two vnodes answer of the same keys, each by
+    /// a history of its own.
     pub fn end(&mut self)
         ensures { self.new ≡ not_compared self.old }
     {

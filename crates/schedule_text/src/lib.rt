@@ -1,9 +1,11 @@
 //! The text of a schedule: one step a line, and one line for each outcome.
 //!
-//! A line names a step and the worker that takes it, as `enter 1`. Behind the worker of an `ask` or a `reap` stands a request: its
-//! message code and its body in lower-case hexadecimal. Behind `divert` stands a partition's index, behind `close` a worker's number and such an index. [`read_line`] reads one as the step that it asks for
-//! (`specs/Lines`), and a line asks for one step ([`a_line_asks_for_one_step`]). [`Lines`] cuts a text into its lines
-//! (`specs/Cuts`), and [`write_outcome`] writes the outcome of a step (`specs/Outcomes`).
+//! A line names a step and the worker that takes it, as `enter 1`. Behind the worker of an `ask` or a
+//! `reap` stands a request: its message code and its body in lower-case hexadecimal. Behind `divert`
+//! stands a partition's index, behind `close` a worker's number and such an index. [`read_line`] reads
+//! one as the step that it asks for (`specs/Lines`), and a line asks for one step
+//! ([`a_line_asks_for_one_step`]). [`Lines`] cuts a text into its lines (`specs/Cuts`), and
+//! [`write_outcome`] writes the outcome of a step (`specs/Outcomes`).
 //!
 //! A [`Comparison`] takes each call and each answer of a run and asks a plain register the same (`specs/Compared`,
 //! `specs/PlainAnswers`); its verdict is the run's last line, which [`write_verdict`] writes (`specs/Verdicts`).

@@ -6,8 +6,9 @@ ghost use Rattle.schedule_text.specs.Cuts.{lines_of};
 use crate::cut::cut_at;
 use std::marker::Model;
 
-/// The lines of a text, from the first: each is ended by a line feed (byte 0a), which isn't part of it and which the last may
-/// lack. An empty text has no line. Contracts see the list of the lines that are left.
+/// The lines of a text, from the first: each is ended by a line feed (byte 0a), which isn't part of it
+/// and which the last may lack. An empty text has no line. Contracts see the list of the lines that are
+/// left.
 #[derive(Drop)]
 pub struct Lines<'a> {
     rest: &'a [u8],

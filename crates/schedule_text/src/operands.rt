@@ -1,9 +1,11 @@
-//! The operands of a line, behind its word: a worker's number, and a message or a partition's index; or such an index alone.
+//! The operands of a line, behind its word: a worker's number, and a message or a partition's index; or
+//! such an index alone.
 
 ghost use Rattle.std.specs.Prelude.{◌≡◌, ◌↔◌, ℕ, IsTrue, decimal, codes};
 ghost use Rattle.std.specs.Str.{bytes_eq};
 ghost use Rattle.schedule_text.specs.Lines.{IsWorker, gate_word, key_word};
-ghost use Rattle.schedule_text.specs.Reading.{MakesKeyed, ReadsAsked, ReadsDecimal, ReadsOperands, ReadsWorker};
+ghost use Rattle.schedule_text.specs.Reading.{MakesKeyed, ReadsAsked, ReadsDecimal, ReadsOperands};
+ghost use Rattle.schedule_text.specs.Reading.{ReadsWorker};
 
 use crate::cut::cut_at;
 use crate::fault::LineFault;
@@ -122,8 +124,8 @@ pub(crate) fn read_gate_step(step: GateStep, text: &[u8], workers: u16) -> Resul
     }
 }
 
-/// The line of a worker that closes a partition's fallback: the worker's number, one space, and the index, decimal without leading
-/// zeros, up to 65,535.
+/// The line of a worker that closes a partition's fallback: the worker's number, one space, and the
+/// index, decimal without leading zeros, up to 65,535.
 pub(crate) fn read_close(text: &[u8], workers: u16) -> Result<Line, LineFault>
     ensures { ReadsOperands (codes "close") workers text.now result }
 {

@@ -74,8 +74,8 @@ fn append_outcome(
     }
 }
 
-/// The line of an outcome: the number of the step's line in decimal, one space, the outcome, and a line feed. A reply is
-/// written as its message code and its body, in lower-case hexadecimal.
+/// The line of an outcome: the number of the step's line in decimal, one space, the outcome, and a line
+/// feed. A reply is written as its message code and its body, in lower-case hexadecimal.
 ///
 /// It is refused where memory is.
 pub fn write_outcome(

@@ -7,7 +7,8 @@ ghost use Rattle.sibling_register.specs.Answers.{RegisterAsk, AskDel, AskGet, As
 ghost use Rattle.sibling_register.specs.Plain.{GivesPositions, IsPosition, answer_of};
 ghost use Rattle.sibling_register.specs.declared.command.Command.TheVariants.{Reap};
 ghost use Rattle.vnode_machine.specs.Asks.{del_command, get_command, put_command, request_ask};
-ghost use Rattle.schedule_text.specs.PlainAnswers.{PlainRegisterAnswers, command_by, history_after, plain_of};
+ghost use Rattle.schedule_text.specs.PlainAnswers.{PlainRegisterAnswers, command_by, history_after};
+ghost use Rattle.schedule_text.specs.PlainAnswers.{plain_of};
 ghost use Rattle.schedule_text.specs.Compared.{within};
 
 use riak_msgs::{Content, DelAsk, GetAsk, Key, PutAsk, Request};

@@ -10,17 +10,19 @@ use std::alloc::Global;
 
 /// The step that a line asks for, where there are `workers` workers. The text is the line without its line feed.
 ///
-/// A step's word and its worker, with one space between: `enter`, `leave`, `mark`, `unmark`, `take`, `put`, `look` or `publish`, and a
-/// decimal number from 1 to `workers` that doesn't begin with a zero. Behind `ask`, `reap` and `copy` follow one more space and a
-/// message in lower-case hexadecimal: a message code and a body, which [`read_request`](riak_msgs::read_request) has to
-/// read. For `ask` it is a get (9), a put (11) or a delete (13); for the two others it is a get, whose key is meant and
-/// whose options aren't looked at. Behind `divert` stands no worker but a partition's index, from 0 to 65,535, in decimal without
-/// leading zeros; behind `close` the worker, one more space, and such an index. That there is such a partition isn't asked here.
+/// A step's word and its worker, with one space between: `enter`, `leave`, `mark`, `unmark`, `take`,
+/// `put`, `look` or `publish`, and a decimal number from 1 to `workers` that doesn't begin with a zero.
+/// Behind `ask`, `reap` and `copy` follow one more space and a message in lower-case hexadecimal: a
+/// message code and a body, which [`read_request`](riak_msgs::read_request) has to read. For `ask` it is
+/// a get (9), a put (11) or a delete (13); for the two others it is a get, whose key is meant and whose
+/// options aren't looked at. Behind `divert` stands no worker but a partition's index, from 0 to 65,535,
+/// in decimal without leading zeros; behind `close` the worker, one more space, and such an index. That
+/// there is such a partition isn't asked here.
 ///
 /// Refused by:
 /// - `BadStep`: exactly where the text is no such line. All but the message is looked at before any memory is taken.
-/// - `NoMemory`: memory was refused, for an `ask`, a `reap` or a `copy` of this form; whether its message is a request is then
-///   not known.
+/// - `NoMemory`: memory was refused, for an `ask`, a `reap` or a `copy` of this form; whether its message
+///   is a request is then not known.
 pub fn read_line(alloc: Global, text: &[u8], workers: u16) -> Result<Line, LineFault>
     ensures reads { ReadsLine workers text.now result }
 {

@@ -1,11 +1,13 @@
 //! What requests give and replies show, and whether a register's answer is a reply's.
 
-ghost use Rattle.std.specs.Prelude.{◌≡◌, IfOk, IfNone, IfSome, None, map, nat_eq, false, if◌then◌else◌};
+ghost use Rattle.std.specs.Prelude.{◌≡◌, IfOk, IfNone, IfSome, None, map, nat_eq, false};
+ghost use Rattle.std.specs.Prelude.{if◌then◌else◌};
 ghost use Rattle.std.specs.Option.{option_eq};
 ghost use Rattle.riak_msgs.specs.Encoding.{repeated_field, shown_message};
 ghost use Rattle.sibling_register.specs.Plain.{answer_of};
 ghost use Rattle.vnode_machine.specs.Asks.{request_ask};
-ghost use Rattle.schedule_text.specs.PlainAnswers.{are_due, is_due, plain_refusal, refusal_due, same_contents, sibling_shown};
+ghost use Rattle.schedule_text.specs.PlainAnswers.{are_due, is_due, plain_refusal, refusal_due};
+ghost use Rattle.schedule_text.specs.PlainAnswers.{same_contents, sibling_shown};
 ghost use Rattle.schedule_text.specs.Compared.{AreOf, context_in, is_asked};
 
 use riak_msgs::{Content, ContextBytes, Key, Reply, Request, Shown, Text, encode_repeated};

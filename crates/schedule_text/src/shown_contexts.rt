@@ -1,10 +1,12 @@
 //! The contexts that replies showed, in the order in which they were shown, and how one is found among them.
 
-ghost use Rattle.std.specs.Prelude.{◌≡◌, [], ◌∷◌, ◌++◌, ℕ, OnOk, OnErr, IsSome, if◌then◌else◌, ◌==◌};
+ghost use Rattle.std.specs.Prelude.{◌≡◌, [], ◌∷◌, ◌++◌, ℕ, OnOk, OnErr, IsSome, if◌then◌else◌};
+ghost use Rattle.std.specs.Prelude.{◌==◌};
 ghost use Rattle.std.specs.BTreeMap.{get};
 ghost use Rattle.std.specs.Ordering.{nat_cmp};
 ghost use Rattle.schedule_text.specs.Compared.{position_of};
-ghost use Rattle.schedule_text.specs.ShownIndex.{digest_of, mixed, entry_digest, places_at, position_among, position_at};
+ghost use Rattle.schedule_text.specs.ShownIndex.{digest_of, mixed, entry_digest, places_at};
+ghost use Rattle.schedule_text.specs.ShownIndex.{position_among, position_at};
 
 use crate::shown_context::ShownContext;
 use actor_epoch::{Actor, Context, Counter};
@@ -18,8 +20,8 @@ const FACTOR: u64 = 1_099_511_628_211;
 
 /// The contexts that replies showed. Contracts see them as a list, in the order in which they were shown.
 ///
-/// Beside the list stand the places of the contexts of each digest, which is a number made of a context's pairs, so that one
-/// is found without a look at the others.
+/// Beside the list stand the places of the contexts of each digest, which is a number made of a context's
+/// pairs, so that one is found without a look at the others.
 pub(crate) struct ShownContexts {
     entries: Vec<ShownContext>,
     places: BTreeMap<u64, Vec<usize>>,

@@ -1,9 +1,9 @@
 //! Sweeps of a vnode: its dead keys are forgotten, so many at a time.
 //!
-//! A deleted key stays as a tombstone with its clock, so that late contexts of its life still meet what they have seen.
-//! A sweep forgets such keys for good: each with its clock, in key order, from a key on. What is forgotten, and what is
-//! left, are the machine's definitions (`dead_keys`, `swept_keys` and `swept` in `specs/Dead` of `vnode_machine`). The body stands beside the
-//! vnode, in `vnode_core`.
+//! A deleted key stays as a tombstone with its clock, so that late contexts of its life still meet what
+//! they have seen. A sweep forgets such keys for good: each with its clock, in key order, from a key on.
+//! What is forgotten, and what is left, are the machine's definitions (`dead_keys`, `swept_keys` and
+//! `swept` in `specs/Dead` of `vnode_machine`). The body stands beside the vnode, in `vnode_core`.
 //!
 //! With b/i and b/k dead, and a value under b/j:
 //!

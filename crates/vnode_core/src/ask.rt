@@ -33,7 +33,8 @@ pub enum Answer {
     Reaped(Reaped),
     /// To a copy.
     Copied,
-    /// To a copy after which the key would have more than 64 siblings, or its clock more than 64 actors: nothing changed.
+    /// To a copy after which the key would have more than 64 siblings, or its clock more than 64 actors:
+    /// nothing changed.
     Stuck,
     /// To a close; and to whatever is asked of a vnode that is closed, where nothing changes.
     Closed,

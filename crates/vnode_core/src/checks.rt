@@ -5,7 +5,10 @@ ghost use Rattle.actor_epoch.specs.Dots.{counter_in};
 ghost use Rattle.dvv_set.specs.Clocks.{join};
 ghost use Rattle.dvv_set.specs.Held.{pairs_of as seen_in};
 ghost use Rattle.dvv_set.specs.Laws.{IsClock};
-ghost use Rattle.vnode_core.specs.Checks.{found_in, last_dot, has_value_in, is_current_in, options_check, ChecksStored, ChecksRoom, first_writer, next_writer, GivesWriter, GivesWriterOf, siblings_check, actor_check, writer_check};
+ghost use Rattle.vnode_core.specs.Checks.{found_in, last_dot, has_value_in, is_current_in};
+ghost use Rattle.vnode_core.specs.Checks.{options_check, ChecksStored, ChecksRoom, first_writer};
+ghost use Rattle.vnode_core.specs.Checks.{next_writer, GivesWriter, GivesWriterOf, siblings_check};
+ghost use Rattle.vnode_core.specs.Checks.{actor_check, writer_check};
 ghost use Rattle.vnode_machine.specs.Sound.{IsForm, IsFormed};
 ghost use Rattle.vnode_core.specs.Refusals.{GivenBy, RefusedBy};
 ghost use Rattle.clock_store.specs.Keys.{stored_of};
@@ -19,9 +22,9 @@ use riak_msgs::PutAsk;
 /// The most siblings of a key, as the clock counts them.
 pub(crate) const MAX_SIBLINGS: u128 = sibling_register::MAX_SIBLINGS as u128;
 
-/// Who makes a write: the actor of its key's life, or the next one's where it begins a life, as that of an absent key does
-/// and that of a key that came by copies alone; and the last epoch that is
-/// given once it is made.
+/// Who makes a write: the actor of its key's life, or the next one's where it begins a life, as that of
+/// an absent key does and that of a key that came by copies alone; and the last epoch that is given once
+/// it is made.
 #[derive(Clone, Copy, Drop)]
 pub(crate) struct Writer {
     /// The actor of the key's life.
@@ -102,8 +105,8 @@ fn check_siblings(key: &StoredClock, context: Option<&Context<'_>>) -> Result<()
     Ok(())
 }
 
-/// Whether the clock of a stored key has room for one write more at the actor of a dot, its last there, without what its context has
-/// seen.
+/// Whether the clock of a stored key has room for one write more at the actor of a dot, its last there,
+/// without what its context has seen.
 fn check_actor(key: &StoredClock, context: Option<&Context<'_>>, last: Dot) -> Result<(), Refusal>
     requires { last.counter ≡ counter_in key.now.clock.meaning.known last.actor }
     ensures given { GivenBy result
@@ -162,8 +165,9 @@ fn check_first_writer(
     Ok(writer)
 }
 
-/// Whether the clock of a stored key has room for one write more, without what its context has seen, and who makes it: the
-/// actor of its life, whose last dot was found, or the next one's of a key that came by copies alone.
+/// Whether the clock of a stored key has room for one write more, without what its context has seen, and
+/// who makes it: the actor of its life, whose last dot was found, or the next one's of a key that came by
+/// copies alone.
 #[inline(always)]
 fn check_writer(
     id: u64,

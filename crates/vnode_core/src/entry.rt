@@ -9,6 +9,7 @@ pub enum Entry {
     Command(VnodeEvent),
     /// At a primary: a key's clock was synced with the one that it had at a fallback.
     Copied(KeyCopy),
-    /// At a fallback: all keys were forgotten, and no command is taken any more. The number is the length of the primary's history.
+    /// At a fallback: all keys were forgotten, and no command is taken any more. The number is the length
+    /// of the primary's history.
     Closed(u64),
 }

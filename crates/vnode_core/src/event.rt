@@ -20,10 +20,12 @@ pub enum VnodeEvent {
     Reap(Key),
 }
 
-/// The history of a gate round a new vnode, where it has commands alone, is a legal history of the sibling register. Each of its events
-/// is the register's next one, with its command's options and its context as given, and was answered as the register answers it at its
-/// place; and the vnode's state is the replay of that history. So it is of each run of commands from the opening state of a vnode, and of
-/// each history of commands of which a state under a right is the replay. Of histories with copies `copy_laws` speaks.
+/// The history of a gate round a new vnode, where it has commands alone, is a legal history of the
+/// sibling register. Each of its events is the register's next one, with its command's options and its
+/// context as given, and was answered as the register answers it at its place; and the vnode's state is
+/// the replay of that history. So it is of each run of commands from the opening state of a vnode, and of
+/// each history of commands of which a state under a right is the replay. Of histories with copies
+/// `copy_laws` speaks.
 pub fn histories_are_legal()
     ensures run { (vnode last_epoch : ℕ) (events : List VnodeEvent) (state : State Content)
         → RunIsLegal vnode last_epoch events state }

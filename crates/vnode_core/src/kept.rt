@@ -20,9 +20,10 @@ pub struct LoggedChange<S: ClockStore> {
     before: Snapshot<VnodeOver<S>>,
 }
 
-/// The machine's states are those of the vnode machine, and its step is the machine's: a command is accepted with the
-/// answer that its event holds, an ask that changes nothing is answered, and a refusal is the machine's, or one for want of
-/// memory where the machine accepts. Copies and the close are entries beside the commands. `prepare` and `apply` are the vnode's `prepare` and `finish`.
+/// The machine's states are those of the vnode machine, and its step is the machine's: a command is
+/// accepted with the answer that its event holds, an ask that changes nothing is answered, and a refusal
+/// is the machine's, or one for want of memory where the machine accepts. Copies and the close are
+/// entries beside the commands. `prepare` and `apply` are the vnode's `prepare` and `finish`.
 impl<S: ClockStore> Kept for VnodeOver<S> {
     type Ask = Ask;
 

@@ -12,8 +12,9 @@ use riak_msgs::{Content, Key};
 use std::alloc::{AllocError, Global};
 use std::marker::Model;
 
-/// A key, and the clock that it had at a fallback: what a copy back brings to the primary. It lies behind one pointer, so that a
-/// command that may be one moves no more bytes for it. For clauses alone it has the commands that the fallback had accepted by then.
+/// A key, and the clock that it had at a fallback: what a copy back brings to the primary. It lies behind
+/// one pointer, so that a command that may be one moves no more bytes for it. For clauses alone it has
+/// the commands that the fallback had accepted by then.
 pub struct KeyCopy {
     parts: Box<CopyParts>,
     prefix: GhostList<VnodeEvent>,

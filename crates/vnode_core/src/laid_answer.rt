@@ -9,8 +9,9 @@ use riak_msgs::{ContextBytes, PutReply, Sequence};
 use std::alloc::{AllocError, Global};
 use std::marker::Model;
 
-/// The answer to a write that is prepared: to a delete, or to a put. A reply that shows something lies behind a pointer, since most
-/// puts are shown nothing, and what lies ready is moved twice. Contracts see the answer.
+/// The answer to a write that is prepared: to a delete, or to a put. A reply that shows something lies
+/// behind a pointer, since most puts are shown nothing, and what lies ready is moved twice. Contracts see
+/// the answer.
 #[derive(Drop)]
 pub(crate) struct LaidAnswer {
     is_put: bool,

@@ -11,8 +11,8 @@ use dvv_set::Clock;
 use riak_msgs::{Content, Key};
 use std::alloc::{AllocError, Global};
 
-/// Whether the primary has a key as the fallback has it now: the fallback's own actor of the key, with the fallback's counter. Where the
-/// fallback's clock has no actor of its own it hasn't.
+/// Whether the primary has a key as the fallback has it now: the fallback's own actor of the key, with
+/// the fallback's counter. Where the fallback's clock has no actor of its own it hasn't.
 pub fn is_copied(primary: &Vnode, key: &Key, there: &StoredClock) -> bool
     ensures { result ≡ is_copied primary.now.state (key.now, stored_of there.now) }
 {
@@ -35,8 +35,9 @@ fn add_left(count: u64, is_copied: bool) -> u64
     count.saturating_add(1)
 }
 
-/// How many keys of the fallback the primary hasn't as they are there now; 18,446,744,073,709,551,615 where there are more. Each key is
-/// copied, to be found at the primary: refused where memory is. It leaves both as they are.
+/// How many keys of the fallback the primary hasn't as they are there now; 18,446,744,073,709,551,615
+/// where there are more. Each key is copied, to be found at the primary: refused where memory is. It
+/// leaves both as they are.
 pub fn count_left(alloc: Global, primary: &Vnode, fallback: &Vnode) -> Result<u64, AllocError>
     requires { IsSound fallback.now.state }
     ensures { IfOk result (λ count. count

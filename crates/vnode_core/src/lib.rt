@@ -1,38 +1,41 @@
 //! One vnode of a store that keeps siblings: gets, puts, deletes and reaps of its keys, as Riak answers them.
 //!
-//! A [`Vnode`] is the vnode machine (`State` in `specs/Machine` of `vnode_machine`), and each call is the machine's step
-//! (`outcome` in its `specs/Step`): each key that it holds has the actor of its life, but where it came by copies alone, and
-//! a clock whose live dots are its siblings. A command is refused, or planned by [`Vnode::prepare`] and made by
-//! [`Vnode::finish`]. At every history that may have led to its state, each call answers as the sibling register does
-//! (`Registers` in `specs/Plans`).
+//! A [`Vnode`] is the vnode machine (`State` in `specs/Machine` of `vnode_machine`), and each call is the
+//! machine's step (`outcome` in its `specs/Step`): each key that it holds has the actor of its life, but
+//! where it came by copies alone, and a clock whose live dots are its siblings. A command is refused, or
+//! planned by [`Vnode::prepare`] and made by [`Vnode::finish`]. At every history that may have led to its
+//! state, each call answers as the sibling register does (`Registers` in `specs/Plans`).
 //!
-//! What a command comes to is the machine's outcome of it (`planned` in `specs/Plans`). A call that plans a command meets
-//! `Plans`, or refuses it as `Refuses` says; one that makes it meets `Steps`; and in each sound state (`IsSound` of
-//! `vnode_machine`) these are outcomes of the sibling register (`RegistersPlan`). Each [`Refusal`] has its number (`specs/Refusals`)
-//! and its error text.
+//! What a command comes to is the machine's outcome of it (`planned` in `specs/Plans`). A call that plans
+//! a command meets `Plans`, or refuses it as `Refuses` says; one that makes it meets `Steps`; and in each
+//! sound state (`IsSound` of `vnode_machine`) these are outcomes of the sibling register
+//! (`RegistersPlan`). Each [`Refusal`] has its number (`specs/Refusals`) and its error text.
 //!
-//! What is prepared is in the vnode's model, the whole command with its options and its context as given, and a
-//! [`Change`] is that command and nothing else. Room, the actor and the answer that were made for it lie in the vnode, so
-//! nothing that callers see is a place, an index or a number of actors. The next `prepare` or `finish` ends the command; the room of a
-//! copy that was given up stays until room is made again, or a reap or a close ends it.
+//! What is prepared is in the vnode's model, the whole command with its options and its context as given,
+//! and a [`Change`] is that command and nothing else. Room, the actor and the answer that were made for
+//! it lie in the vnode, so nothing that callers see is a place, an index or a number of actors. The next
+//! `prepare` or `finish` ends the command; the room of a copy that was given up stays until room is made
+//! again, or a reap or a close ends it.
 //!
-//! Behind a gate (`rw_gate`) a vnode is a [`Kept`] state, and an [`Entry`] is what its history consists of: a [`VnodeEvent`], which is a
-//! command that was accepted with its answer, a copy of a key from another vnode, or the close of a vnode, after which it takes nothing
-//! more. Its change there, a [`LoggedChange`], carries for clauses alone the
-//! vnode that it was prepared from, and the two name the [`VnodeEvent`] that it makes in the gate's history, with its answer.
-//! [`histories_are_legal`] is the law of such a history.
+//! Behind a gate (`rw_gate`) a vnode is a [`Kept`] state, and an [`Entry`] is what its history consists
+//! of: a [`VnodeEvent`], which is a command that was accepted with its answer, a copy of a key from
+//! another vnode, or the close of a vnode, after which it takes nothing more. Its change there, a
+//! [`LoggedChange`], carries for clauses alone the vnode that it was prepared from, and the two name the
+//! [`VnodeEvent`] that it makes in the gate's history, with its answer. [`histories_are_legal`] is the
+//! law of such a history.
 //!
 //! Dead keys stay, with their clocks, until a reap forgets them: [`sweep`] makes so many reaps at most, in key order.
 //!
-//! A vnode may stand beside another, as the fallback of a primary: [`is_copied`] says whether the primary has a key as the fallback has it
-//! now, and [`count_left`] how many keys it hasn't so.
+//! A vnode may stand beside another, as the fallback of a primary: [`is_copied`] says whether the primary
+//! has a key as the fallback has it now, and [`count_left`] how many keys it hasn't so.
 //!
-//! Its storage is any [`ClockStore`](clock_store::ClockStore): a [`VnodeOver`] is proved from that trait's contract
-//! alone, so each form of storage gives the same vnode, and [`Vnode`] is the one over the ordered map. What a key costs
-//! to find is the form's; a put looks its key up once, for its checks, its answer (`checks` and `replies`) and its room,
-//! and a new key is put where a second search leads. A put or a delete takes memory in `prepare` alone: room in the store
-//! for its key, in the key's clock for the actors that are new to it, and for its siblings with one more. `finish` takes
-//! none, so what is accepted is never half made. Making a put moves the key's siblings once.
+//! Its storage is any [`ClockStore`](clock_store::ClockStore): a [`VnodeOver`] is proved from that
+//! trait's contract alone, so each form of storage gives the same vnode, and [`Vnode`] is the one over
+//! the ordered map. What a key costs to find is the form's; a put looks its key up once, for its checks,
+//! its answer (`checks` and `replies`) and its room, and a new key is put where a second search leads. A
+//! put or a delete takes memory in `prepare` alone: room in the store for its key, in the key's clock for
+//! the actors that are new to it, and for its siblings with one more. `finish` takes none, so what is
+//! accepted is never half made. Making a put moves the key's siblings once.
 //!
 //! ```text
 //! Vnode::new(alloc, 65536, 1)               no key; the first life's epoch is 1
@@ -75,7 +78,8 @@ mod vnode;
 pub use ask::{Answer, Ask, Plan, Reaped};
 pub use change::Change;
 pub use clock_store::{FoundKey, KeyRef, OwnActor, StoredClock, given_parts};
-/// The law of copies between a primary vnode and its fallbacks: what is live of a key at the primary are its joint siblings.
+/// The law of copies between a primary vnode and its fallbacks: what is live of a key at the primary are
+/// its joint siblings.
 pub use copy_laws::copy_joins;
 pub use entry::Entry;
 pub use event::{VnodeEvent, histories_are_legal};

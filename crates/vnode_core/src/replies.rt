@@ -9,7 +9,9 @@ ghost use Rattle.actor_epoch.specs.Entries.{entries_of, entry_of};
 ghost use Rattle.actor_epoch.specs.Given.{context_of};
 ghost use Rattle.dvv_set.specs.Held.{IsWithin, pairs_of as seen_in};
 ghost use Rattle.riak_msgs.specs.Contents.{Content, shown};
-ghost use Rattle.vnode_core.specs.Replies.{nothing, nothing_after, is_its, all_shown, siblings_of, reply_after, filled, clock_after, clock_found, RefersTo, Previews, FitsPut, sole};
+ghost use Rattle.vnode_core.specs.Replies.{nothing, nothing_after, is_its, all_shown, siblings_of};
+ghost use Rattle.vnode_core.specs.Replies.{reply_after, filled, clock_after, clock_found, RefersTo};
+ghost use Rattle.vnode_core.specs.Replies.{Previews, FitsPut, sole};
 ghost use Rattle.clock_store.specs.Keys.{stored_of};
 
 use crate::checks::MAX_SIBLINGS;
@@ -265,9 +267,9 @@ fn next_sole_counter(key: &StoredClock, context: &Context<'_>, actor: Actor) -> 
     None
 }
 
-/// The counter of the dot that a put is given, where its content is the one sibling after it and its actor the one that is known then: at a
-/// new key, and where the context has seen all of a key that this actor alone has written. Most puts that are shown siblings are such, and
-/// need no clock to preview.
+/// The counter of the dot that a put is given, where its content is the one sibling after it and its
+/// actor the one that is known then: at a new key, and where the context has seen all of a key that this
+/// actor alone has written. Most puts that are shown siblings are such, and need no clock to preview.
 fn sole_counter(
     found: Option<&StoredClock>,
     context: Option<&Context<'_>>,
@@ -300,8 +302,9 @@ fn sole_reply(
     Ok(PutReply { contents, context })
 }
 
-/// The answer to an accepted put, by what was found of its key before it: nothing, or where it asked for them the
-/// siblings after it, with their values or without, and the context. No content is copied: what is shown is a further owner of its bytes.
+/// The answer to an accepted put, by what was found of its key before it: nothing, or where it asked for
+/// them the siblings after it, with their values or without, and the context. No content is copied: what
+/// is shown is a further owner of its bytes.
 pub(crate) fn put_reply(
     alloc: Global,
     found: Option<&StoredClock>,

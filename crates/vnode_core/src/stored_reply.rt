@@ -4,10 +4,12 @@ ghost use Rattle.std.specs.Prelude.{◌≡◌, [], ◌∷◌, true, OnOk};
 ghost use Rattle.actor_epoch.specs.Contexts.{encoding, entry_bytes};
 ghost use Rattle.actor_epoch.specs.Entries.{entry_of};
 ghost use Rattle.actor_epoch.specs.declared.version.Version.TheVariants.{Two};
-ghost use Rattle.riak_msgs.specs.Encoding.{bytes_field, context_field, repeated_field, shown_message};
+ghost use Rattle.riak_msgs.specs.Encoding.{bytes_field, context_field, repeated_field};
+ghost use Rattle.riak_msgs.specs.Encoding.{shown_message};
 ghost use Rattle.clock_store.specs.Keys.{stored_of};
 ghost use Rattle.std.specs.List.{flat_map};
-ghost use Rattle.vnode_core.specs.Replies.{nothing, unchanged, shown_siblings, shown_context, siblings_of};
+ghost use Rattle.vnode_core.specs.Replies.{nothing, unchanged, shown_siblings, shown_context};
+ghost use Rattle.vnode_core.specs.Replies.{siblings_of};
 
 use crate::replies::{is_shown_by, only_pair};
 use actor_epoch::{Actor, Context, Counter};
@@ -24,11 +26,12 @@ const PAIR_FIELD: [u8; 23] = [
     18, 21, 2, 0, 0, 0, 0, 0, 0, 0, 0, 0, 0, 0, 0, 0, 0, 0, 0, 0, 0, 0, 0,
 ];
 
-/// The reply to a get, of which nothing is copied: it is encoded from where the siblings and the clock of the key lie. Contracts see the
-/// reply.
+/// The reply to a get, of which nothing is copied: it is encoded from where the siblings and the clock of
+/// the key lie. Contracts see the reply.
 ///
-/// Of a key with the one sibling "v", written once in the first life at vnode 65,536, the encoding is `0a 03 0a 01 76`, "v" as a field of a
-/// content that is a field of the reply, and behind it `12 15` and the 21 bytes of the context.
+/// Of a key with the one sibling "v", written once in the first life at vnode 65,536, the encoding is `0a
+/// 03 0a 01 76`, "v" as a field of a content that is a field of the reply, and behind it `12 15` and the
+/// 21 bytes of the context.
 #[derive(Drop)]
 pub struct StoredReply<'a> {
     siblings: Option<&'a StoredClock>,

@@ -17,8 +17,9 @@ pub struct Swept {
     pub more: bool,
 }
 
-/// Reaps the first `budget` dead keys at or after `from`, or of all keys where none is given, in key order: these and no
-/// others. Where the budget isn't 0, what was prepared ends. It takes no memory and is never refused.
+/// Reaps the first `budget` dead keys at or after `from`, or of all keys where none is given, in key
+/// order: these and no others. Where the budget isn't 0, what was prepared ends. It takes no memory and
+/// is never refused.
 pub fn sweep(vnode: &mut Vnode, from: Option<&Key>, budget: u32) -> Swept
     ensures state { vnode.new.state ≡ swept vnode.old.state (key_given from.entry) budget }
     ensures reaped { result.reaped

@@ -12,7 +12,8 @@ ghost use Rattle.vnode_machine.specs.Step.{outcome, Answered, GetDone};
 ghost use Rattle.vnode_core.specs.Checks.{found_in, writer_of};
 ghost use Rattle.vnode_core.specs.declared.ask.Ask.TheVariants.{Put, Del};
 ghost use Rattle.vnode_machine.specs.Sound.{IsSound};
-ghost use Rattle.vnode_core.specs.Plans.{IsPrepared, Plans, Refuses, RefusesOpen, Registers, RegistersPlan, RegistersStep, Steps, AcceptsPrepared, IsWrite};
+ghost use Rattle.vnode_core.specs.Plans.{AcceptsPrepared, IsPrepared, IsWrite, Plans, Refuses};
+ghost use Rattle.vnode_core.specs.Plans.{RefusesOpen, Registers, RegistersPlan, RegistersStep, Steps};
 ghost use Rattle.vnode_core.specs.Readiness.{plan_in};
 ghost use Rattle.vnode_core.specs.Refusals.{GivenBy};
 ghost use Rattle.vnode_core.specs.declared.ask.Answer.TheVariants as answers;
@@ -59,12 +60,12 @@ pub use tally::Tally;
 ///   gives it leaves all siblings, and the clock of b/k knows that actor from then on.
 /// - 62 puts more on b/k without context are accepted. Then it has 64 siblings, and the next is refused:
 ///   `TooManySiblings`. What a get shows stays as it was; a put by the context that it shows leaves that put alone.
-/// - delete of b/j without a context: it sees all that is stored there. Its tombstone has dot 2 of (65536, 2), and b/j is
-///   dead: a get shows nothing, and with `deletedvclock` the context. Another delete is a tombstone more, with dot 3.
+/// - delete of b/j without a context: it sees all that is stored there. Its tombstone has dot 2 of (65536, 2), and
+///   b/j is dead: a get shows nothing, and with `deletedvclock` the context. Another delete has dot 3.
 /// - put "y" on b/j without a context, with `return_body`: it saw no tombstone. The reply shows "y" and, deleted, the
 ///   tombstone, and the actor with counter 4, as a get shows them then.
-/// - delete of b/i, which is absent, without a context: it does nothing, and takes no epoch. By the context of b/j it is
-///   a tombstone, and begins a life at (65536, 3).
+/// - delete of b/i, which is absent, without a context: it does nothing, and takes no epoch. By the
+///   context of b/j it is a tombstone, and begins a life at (65536, 3).
 pub struct VnodeOver<S: ClockStore> {
     id: u64,
     epochs: EpochSource,
@@ -196,11 +197,11 @@ impl<S: ClockStore> VnodeOver<S> {
         VnodeOver::after(alloc, id, first_epoch - 1)
     }
 
-    /// Shows a key: its siblings, the newest first, and the bytes of its context; nothing, where the key is
-    /// absent. A dead key, whose siblings are all tombstones, shows its context alone, and that with `deletedvclock`
-    /// alone. With `head` the values are empty. Where the key has a value and `if_modified` has the entries of its clock,
-    /// the reply is `unchanged` alone; any other `if_modified` is as none.
-    /// Refused for want of memory alone.
+    /// Shows a key: its siblings, the newest first, and the bytes of its context; nothing, where the key
+    /// is absent. A dead key, whose siblings are all tombstones, shows its context alone, and that with
+    /// `deletedvclock` alone. With `head` the values are empty. Where the key has a value and
+    /// `if_modified` has the entries of its clock, the reply is `unchanged` alone; any other
+    /// `if_modified` is as none. Refused for want of memory alone.
     pub fn get(&self, alloc: Global, ask: &GetAsk) -> Result<GetReply, Refusal>
         ensures ok { IfOk result (λ reply.
             outcome self.now.state (AskGet (get_command ask.now)) ≡ Answered (GetDone reply)) }
@@ -320,26 +321,28 @@ impl<S: ClockStore> VnodeOver<S> {
         }
     }
 
-    /// Plans a command: checks it, makes all the room that it needs, and its answer. Nothing changes until the change is
-    /// finished; a change that isn't finished is as if never asked for, and the next `prepare` ends it, also one that is
-    /// refused. The room of a copy that was given up stays until room is made again, or a reap or a close ends it. A delete without
-    /// context of an absent key does nothing: it is `Plan::Nothing`, whatever memory there is. So is a copy that is `Stuck`, and
+    /// Plans a command: checks it, makes all the room that it needs, and its answer. Nothing changes
+    /// until the change is finished; a change that isn't finished is as if never asked for, and the next
+    /// `prepare` ends it, also one that is refused. The room of a copy that was given up stays until room
+    /// is made again, or a reap or a close ends it. A delete without context of an absent key does
+    /// nothing: it is `Plan::Nothing`, whatever memory there is. So is a copy that is `Stuck`, and
     /// whatever is asked of a vnode that is closed: the answer is `Closed`.
     ///
-    /// The answer to a put shows nothing, or with `return_body` all siblings after it, the newest first, and the context;
-    /// with `return_head` alone the same with empty values.
+    /// The answer to a put shows nothing, or with `return_body` all siblings after it, the newest first,
+    /// and the context; with `return_head` alone the same with empty values.
     ///
-    /// Refusals, the first that holds, by checks that take no memory: `BadContext`, where the context isn't of the
-    /// form, or names an epoch of this vnode above the last one given, or the key's own actor with a counter above the
-    /// stored one; `MatchFound`, where the put asks for no value and there is one; `NotFound` and `Modified`, where it
-    /// asks for an unchanged key and not for no value, and there is no value, or the context hasn't the entries of the
-    /// key's clock; `TooManySiblings`, where more than 63 siblings aren't covered by the context; `ClockFull`, where the
-    /// actors of the key's clock, of the context and the key's own are more than 64; `EpochsUsedUp`, where the key is
-    /// absent or came by copies alone, and the epoch 4,294,967,295 was given; `CounterUsedUp`, where the key's actor has
-    /// the dot 18,446,744,073,709,551,615. The own actor of a key that has none is the next one.
-    /// `NoMemory`, where none of these holds and a growth was refused. Each leaves the state as it was. The options are
-    /// a put's alone. Without a context a put covers nothing, and a delete all that is stored: `BadContext` and
-    /// `TooManySiblings` never refuse such a delete.
+    /// Refusals, the first that holds, by checks that take no memory: `BadContext`, where the context
+    /// isn't of the form, or names an epoch of this vnode above the last one given, or the key's own
+    /// actor with a counter above the stored one; `MatchFound`, where the put asks for no value and there
+    /// is one; `NotFound` and `Modified`, where it asks for an unchanged key and not for no value, and
+    /// there is no value, or the context hasn't the entries of the key's clock; `TooManySiblings`, where
+    /// more than 63 siblings aren't covered by the context; `ClockFull`, where the actors of the key's
+    /// clock, of the context and the key's own are more than 64; `EpochsUsedUp`, where the key is absent
+    /// or came by copies alone, and the epoch 4,294,967,295 was given; `CounterUsedUp`, where the key's
+    /// actor has the dot 18,446,744,073,709,551,615. The own actor of a key that has none is the next
+    /// one. `NoMemory`, where none of these holds and a growth was refused. Each leaves the state as it
+    /// was. The options are a put's alone. Without a context a put covers nothing, and a delete all that
+    /// is stored: `BadContext` and `TooManySiblings` never refuse such a delete.
     #[inline(always)]
     pub fn prepare(&mut self, alloc: Global, ask: Ask) -> Result<Plan<Change, Answer>, Refusal>
         ensures same { self.new.state ≡ self.old.state }

@@ -1,6 +1,7 @@
 //! The dead keys in their order, but those with short names.
 
-ghost use Rattle.std.specs.Prelude.{◌≡◌, OnOk, OnErr, IfSome, IfNone, Some, None, drop, if◌then◌else◌};
+ghost use Rattle.std.specs.Prelude.{◌≡◌, OnOk, OnErr, IfSome, IfNone, Some, None, drop};
+ghost use Rattle.std.specs.Prelude.{if◌then◌else◌};
 ghost use Rattle.std.specs.BTreeMap.{get, is_at, IsOrdered};
 ghost use Rattle.riak_msgs.specs.KeyOrder.{key_cmp};
 ghost use Rattle.std.specs.Option.{option_map};
@@ -111,8 +112,8 @@ fn take_entry_after(index: &mut BTreeMap<Key, usize>, passed: usize) -> Option<(
     dead.next()
 }
 
-/// Takes out the least key at or after one, or of all where none is given: there by one search, else by a pass over the keys
-/// before it. Where no entry is spare that key is dead. It takes no memory.
+/// Takes out the least key at or after one, or of all where none is given: there by one search, else by a
+/// pass over the keys before it. Where no entry is spare that key is dead. It takes no memory.
 pub(crate) fn take_first(index: &mut BTreeMap<Key, usize>, from: Option<&Key>) -> Option<Key>
     ensures first { result ≡ first_marked None (key_given from.entry) index.old.entries }
     ensures taken { IfSome result (λ key. (q : Key) → get key_cmp index.new q

@@ -1,6 +1,7 @@
 //! The keys of one bucket type, with their places.
 
-ghost use Rattle.std.specs.Prelude.{◌≡◌, [], ◌∷◌, IfOk, OnOk, OnErr, Some, None, IsTrue, true, ◌↔◌, if◌then◌else◌};
+ghost use Rattle.std.specs.Prelude.{◌≡◌, [], ◌∷◌, IfOk, OnOk, OnErr, Some, None, IsTrue, true, ◌↔◌};
+ghost use Rattle.std.specs.Prelude.{if◌then◌else◌};
 ghost use Rattle.std.specs.BTreeMap.{is_at};
 ghost use Rattle.names.specs.ShortNames.{is_short};
 ghost use Rattle.clock_store.specs.AssocList.{get, IsOrdered};
@@ -17,8 +18,8 @@ use riak_msgs::Bytes;
 use std::alloc::{AllocError, Global};
 use std::marker::Model;
 
-/// Buckets in their order, each with its keys in theirs, and each key with its place: those with names of up to 15 bytes, and those
-/// with longer ones. No bucket is without keys.
+/// Buckets in their order, each with its keys in theirs, and each key with its place: those with names of
+/// up to 15 bytes, and those with longer ones. No bucket is without keys.
 ///
 /// Contracts see the list of all keys, each with its bucket and its place.
 pub(crate) struct BucketPlaces {

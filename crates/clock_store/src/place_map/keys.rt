@@ -1,6 +1,7 @@
 //! The keys of one bucket, with their places.
 
-ghost use Rattle.std.specs.Prelude.{◌≡◌, ◌↔◌, [], ◌∷◌, IfOk, OnOk, OnErr, IsTrue, true, Some, None, if◌then◌else◌, ℕ, List, option_map};
+ghost use Rattle.std.specs.Prelude.{◌≡◌, ◌↔◌, [], ◌∷◌, IfOk, OnOk, OnErr, IsTrue, true, Some, None};
+ghost use Rattle.std.specs.Prelude.{if◌then◌else◌, ℕ, List, option_map};
 ghost use Rattle.std.specs.BTreeMap as tree;
 ghost use Rattle.std.specs.BTreeMap.{is_at};
 ghost use Rattle.names.specs.ShortNames.{is_short};
@@ -18,8 +19,9 @@ use std::alloc::{AllocError, Global};
 use std::collections::BTreeMap;
 use std::marker::Model;
 
-/// Keys in their order, each with its place: those of up to 15 bytes in a map by their two numbers, and the longer ones in one of
-/// their own. A place is a number of 32 bits. Contracts see the list of all keys.
+/// Keys in their order, each with its place: those of up to 15 bytes in a map by their two numbers, and
+/// the longer ones in one of their own. A place is a number of 32 bits. Contracts see the list of all
+/// keys.
 pub(crate) struct KeyPlaces {
     short: BTreeMap<ShortName, u32>,
     long: BTreeMap<Bytes, u32>,
@@ -80,8 +82,8 @@ fn get_long(keys: &BTreeMap<Bytes, u32>, key: &Bytes) -> Option<usize>
     }
 }
 
-/// Gives a name a place, which replaces the one that it has, by one search. Refused where memory is, and where the place is no number
-/// of 32 bits; then nothing changes.
+/// Gives a name a place, which replaces the one that it has, by one search. Refused where memory is, and
+/// where the place is no number of 32 bits; then nothing changes.
 #[inline(always)]
 fn insert_short(
     keys: &mut BTreeMap<ShortName, u32>,
@@ -89,7 +91,8 @@ fn insert_short(
     place: usize,
 ) -> Result<(), AllocError>
     ensures inserted { OnOk result ((other : List ℕ) → tree.get bytes_cmp keys.new other
-        ≡ (if is_at (bytes_cmp name) other then Some place else tree.get bytes_cmp keys.old other)) }
+        ≡ (if is_at (bytes_cmp name) other then Some place
+        else tree.get bytes_cmp keys.old other)) }
     ensures refused { OnErr result (keys.new.entries ≡ keys.old.entries) }
     ensures ordered { tree.IsOrdered bytes_cmp keys.new }
 {
@@ -110,7 +113,8 @@ fn insert_long(
     place: usize,
 ) -> Result<(), AllocError>
     ensures inserted { OnOk result ((other : List ℕ) → tree.get bytes_cmp keys.new other
-        ≡ (if is_at (bytes_cmp key.now) other then Some place else tree.get bytes_cmp keys.old other)) }
+        ≡ (if is_at (bytes_cmp key.now) other then Some place
+        else tree.get bytes_cmp keys.old other)) }
     ensures refused { OnErr result (keys.new.entries ≡ keys.old.entries) }
     ensures ordered { tree.IsOrdered bytes_cmp keys.new }
 {
@@ -191,7 +195,8 @@ fn by_value(entry: Option<(&ShortName, &u32)>) -> Option<(ShortName, usize)>
 
 /// The least name behind the first 15 bytes of one, or of all where none is given, with its place.
 fn next_short(keys: &BTreeMap<ShortName, u32>, after: Option<&Bytes>) -> Option<(ShortName, usize)>
-    ensures { result ≡ next_entry bytes_cmp (option_map (λ key. take 15 key.now) after.entry) keys.now.entries }
+    ensures { result
+        ≡ next_entry bytes_cmp (option_map (λ key. take 15 key.now) after.entry) keys.now.entries }
 {
     match after {
         None => by_value(next_entry(keys, None)),
@@ -289,8 +294,8 @@ impl KeyPlaces {
         self.short.is_empty() && self.long.is_empty()
     }
 
-    /// Gives a key a place, which replaces the one that it has, by one search. Refused where memory is, and where the place is no
-    /// number of 32 bits; then nothing changes.
+    /// Gives a key a place, which replaces the one that it has, by one search. Refused where memory is,
+    /// and where the place is no number of 32 bits; then nothing changes.
     #[inline(always)]
     pub(crate) fn insert(
         &mut self,
@@ -299,7 +304,8 @@ impl KeyPlaces {
         place: usize,
     ) -> Result<(), AllocError>
         ensures inserted { OnOk result ((other : List ℕ) → get bytes_cmp self.new other
-            ≡ (if is_at (bytes_cmp key.now) other then Some place else get bytes_cmp self.old other)) }
+            ≡ (if is_at (bytes_cmp key.now) other then Some place
+            else get bytes_cmp self.old other)) }
         ensures refused { OnErr result (self.new.entries ≡ self.old.entries) }
         ensures ordered { IsOrdered bytes_cmp self.new }
     {

@@ -36,7 +36,8 @@ fn is_stuck(alloc: Global, found: Option<&StoredClock>, other: &Clock<Option<Con
 }
 
 impl<S: ClockStore> VnodeOver<S> {
-    /// Makes ready what a copy needs: room in the clock of its key; then it is what is prepared. One that is stuck needs nothing.
+    /// Makes ready what a copy needs: room in the clock of its key; then it is what is prepared. One that
+    /// is stuck needs nothing.
     pub(crate) fn make_copy_ready(
         &mut self,
         alloc: Global,

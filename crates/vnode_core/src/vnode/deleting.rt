@@ -46,8 +46,8 @@ impl<S: ClockStore> VnodeOver<S> {
         check_room(self.id, last_epoch, found, last, Some(context))
     }
 
-    /// Checks a delete without context, by what was found of its key; returns who writes its tombstone: nobody, where the
-    /// key is absent.
+    /// Checks a delete without context, by what was found of its key; returns who writes its tombstone:
+    /// nobody, where the key is absent.
     fn check_del_of_all(
         &self,
         key: &Key,
@@ -81,8 +81,8 @@ impl<S: ClockStore> VnodeOver<S> {
         }
     }
 
-    /// Makes ready what a delete needs: room for its tombstone; then it is what is prepared. One that does nothing needs
-    /// nothing. Its key is searched for once.
+    /// Makes ready what a delete needs: room for its tombstone; then it is what is prepared. One that
+    /// does nothing needs nothing. Its key is searched for once.
     pub(crate) fn make_del_ready(
         &mut self,
         alloc: Global,

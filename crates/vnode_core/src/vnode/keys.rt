@@ -21,8 +21,8 @@ use riak_msgs::{Content, Key};
 use std::alloc::Global;
 
 impl<S: ClockStore> VnodeOver<S> {
-    /// A vnode that holds no key, and whose first life gets the epoch behind `last_epoch`, as if that was the last one it gave; where it
-    /// is 4,294,967,295, no life begins. It takes no memory.
+    /// A vnode that holds no key, and whose first life gets the epoch behind `last_epoch`, as if that was
+    /// the last one it gave; where it is 4,294,967,295, no life begins. It takes no memory.
     pub fn after(alloc: Global, id: u64, last_epoch: u32) -> VnodeOver<S>
         ensures state { result.state ≡ opening id last_epoch }
         ensures prepared { result.prepared ≡ None }
@@ -55,8 +55,8 @@ impl<S: ClockStore> VnodeOver<S> {
         self.closed
     }
 
-    /// The least key behind one, or of all where none is given, present or dead, with its actor and its clock. The key is lent part by
-    /// part, since no whole key is stored. It takes no memory.
+    /// The least key behind one, or of all where none is given, present or dead, with its actor and its
+    /// clock. The key is lent part by part, since no whole key is stored. It takes no memory.
     pub fn next_key(&self, after: Option<KeyRef<'_>>) -> Option<(FoundKey<'_>, &StoredClock)>
         ensures next { option_map (λ entry. (key_found entry.0, stored_of entry.1.now)) result
             ≡ next_entry key_cmp (key_after after.entry) self.now.state.keys }
@@ -76,8 +76,8 @@ impl<S: ClockStore> VnodeOver<S> {
         }
     }
 
-    /// The last dot of a key's life at this vnode: its own actor with that one's counter; None where the key is absent, or came by
-    /// copies alone. It takes no memory.
+    /// The last dot of a key's life at this vnode: its own actor with that one's counter; None where the
+    /// key is absent, or came by copies alone. It takes no memory.
     pub fn own(&self, key: &Key) -> Option<Dot>
         ensures { result ≡ last_dot (stored self.now.state key.now) }
     {

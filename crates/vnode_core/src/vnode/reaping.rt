@@ -3,9 +3,11 @@
 ghost use Rattle.std.specs.Prelude.{◌≡◌, None, Some};
 ghost use Rattle.vnode_machine.specs.Dead.{has_dead};
 ghost use Rattle.vnode_core.specs.declared.ask.Ask.TheVariants.{Reap, ReapFirst};
-ghost use Rattle.vnode_core.specs.Plans.{Plans, RegistersReap, RegistersFirstReap, RegistersStep, Steps};
+ghost use Rattle.vnode_core.specs.Plans.{Plans, RegistersReap, RegistersFirstReap, RegistersStep};
+ghost use Rattle.vnode_core.specs.Plans.{Steps};
 ghost use Rattle.vnode_core.specs.Readiness.{plan_in};
-ghost use Rattle.vnode_core.specs.Reaping.{key_given, reap_result, after_reap, after_first_reap, LosesFirstDead};
+ghost use Rattle.vnode_core.specs.Reaping.{key_given, reap_result, after_reap, after_first_reap};
+ghost use Rattle.vnode_core.specs.Reaping.{LosesFirstDead};
 
 use crate::ask::{Answer, Ask, Reaped};
 use crate::ready::Readiness;
@@ -15,9 +17,9 @@ use ghost_state::GhostValue;
 use riak_msgs::Key;
 
 impl<S: ClockStore> VnodeOver<S> {
-    /// Forgets a dead key whole, with its clock; its next write begins a new life, at a new actor. `Gone`: it was dead, and
-    /// is forgotten. `Kept`: it has a value, and stays as it is. `Absent`: it wasn't there. What was prepared ends. It
-    /// takes no memory.
+    /// Forgets a dead key whole, with its clock; its next write begins a new life, at a new actor.
+    /// `Gone`: it was dead, and is forgotten. `Kept`: it has a value, and stays as it is. `Absent`: it
+    /// wasn't there. What was prepared ends. It takes no memory.
     pub fn reap(&mut self, key: &Key) -> Reaped
         ensures exact { result ≡ reap_result self.old.state key.now }
         ensures state { self.new.state ≡ after_reap self.old.state key.now }
@@ -32,8 +34,8 @@ impl<S: ClockStore> VnodeOver<S> {
         reaped
     }
 
-    /// Reaps the least dead key at or after the given one, or of all where none is given. False where there is none, and
-    /// then the state stays. What was prepared ends. It takes no memory.
+    /// Reaps the least dead key at or after the given one, or of all where none is given. False where
+    /// there is none, and then the state stays. What was prepared ends. It takes no memory.
     pub fn reap_first(&mut self, from: Option<&Key>) -> bool
         ensures found { result ≡ has_dead self.old.state (key_given from.entry) }
         ensures state { self.new.state ≡ after_first_reap self.old.state (key_given from.entry) }

@@ -12,8 +12,9 @@ use clock_store::{ClockStore, stored_in};
 use riak_msgs::PutAsk;
 
 impl<S: ClockStore> VnodeOver<S> {
-    /// What refuses a put for which there is no memory: the first of the checks of [`prepare`](Self::prepare) that holds, and `NoMemory` where
-    /// none does. None where the vnode is closed. It takes no memory.
+    /// What refuses a put for which there is no memory: the first of the checks of
+    /// [`prepare`](Self::prepare) that holds, and `NoMemory` where none does. None where the vnode is
+    /// closed. It takes no memory.
     pub fn refusal_without_memory(&self, put: &PutAsk) -> Option<Refusal>
         ensures refused { IfSome result (Refuses self.now.state (Put put.now)) }
         ensures closed { IfNone result (IsSome self.now.state.closed) }

@@ -12,8 +12,8 @@ use clock_store::ClockStore;
 use riak_msgs::GetAsk;
 
 impl<S: ClockStore> VnodeOver<S> {
-    /// Shows a key as [`VnodeOver::get`] does, but where its siblings and its clock lie: nothing is copied. It takes no memory and is never
-    /// refused.
+    /// Shows a key as [`VnodeOver::get`] does, but where its siblings and its clock lie: nothing is
+    /// copied. It takes no memory and is never refused.
     #[inline(always)]
     pub fn show(&self, ask: &GetAsk) -> StoredReply<'_>
         ensures shows { outcome self.now.state (AskGet (get_command ask.now))
