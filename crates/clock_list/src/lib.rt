@@ -13,6 +13,15 @@
 //! list, with a copy of the key, and for a new key its row, which goes in at that place without memory.
 //!
 //! It is the plain form of [`ClockStore`], for tests to compare others with.
+//!
+//! # Proved
+//!
+//! The list meets the contract of every form of storage. By `impl ClockStore for ClockList`.
+//!
+//! # Tested
+//!
+//! A vnode over the list (`ListVnode`) gives the same answers and tallies as the program's vnode.
+//! The test makes 1,000 requests over 20 keys: with contexts of earlier replies, deletes and reaps.
 #![tactic(auto)]
 
 mod list;

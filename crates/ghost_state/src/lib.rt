@@ -15,6 +15,14 @@
 //!
 //! How it is built: a list is what was seen of a log (`logbook::Seen`) that is opened with the whole
 //! list, has no word, and never grows. A value is a list of at most one.
+//!
+//! # Proved
+//!
+//! By the calls of `GhostValue` and `GhostList`.
+//!
+//! # Tested
+//!
+//! Both types have no bytes.
 #![tactic(auto)]
 
 mod list;

@@ -38,9 +38,7 @@
 //! and what the primary had when the partition was diverted ([`Start`]). So the end of a diversion can
 //! compare tallies, and says that the fallback took writes and deletes alone, and the primary only copies
 //! since then (`EndsFrom`). A caller who copies back alone, one call after another, can compare that its
-//! calls made all of these copies ([`copies_are_of_calls`]). Then, of any number of diversions of a
-//! partition, nothing more is asked than that contexts name what was there ([`running_hand_offs_join`]),
-//! as those do that had been shown ([`shown_contexts_name`]).
+//! calls made all of these copies ([`copies_are_of_calls`]).
 //!
 //! What it costs: a partition that isn't diverted has a place for its fallback, and a call looks at that
 //! place. A diversion makes one gate and one vnode without keys. A key that is copied, or that is looked
@@ -52,6 +50,40 @@
 //!
 //! Rights are taken in one order, the fallback's before the primary's, and no call that holds a primary's
 //! asks for a fallback's. So none of these calls waits for another that waits for it.
+//!
+//! # Proved
+//!
+//! - `divert` puts a fallback beside a partition's primary. `copy_back` publishes at the primary
+//!   copies alone, each of a key's clock as the fallback held it at a look. Each other key that it
+//!   tried was stuck: too many siblings or actors would have come of it, or the primary was closed.
+//! - `finish_return` closes the fallback if each of its keys was copied as it was. `LeftOver` comes
+//!   only with the first key that isn't. By `divert`, `copy_back`, `finish_return`, `Handoff::new`,
+//!   `diversion`, `fallback`.
+//! - **After any number of diversions of a partition, each of which has returned, the siblings of
+//!   each key at the primary are its joint ones. The primary's log is legal for the key** (law
+//!   `running_hand_offs_join`). Its caller compares two things of each diversion
+//!   (`HasReturnedBehind`). First: the primary took commands alone since the return before. Second:
+//!   its calls of `copy_back`, one behind another, copied as many keys as entries came (law
+//!   `copies_are_of_calls`).
+//! - Contexts have to name what was there. They do if each had been shown for its key (law
+//!   `shown_contexts_name`). No reply is tied to a context that a client holds.
+//! - If two calls copy back one partition at once, `returns_join` asks for more (`IsHandedOff`). By
+//!   the laws `returns_join`, `copies_are_true`, `turns_spare_reaps`.
+//!
+//! # Tested
+//!
+//! - Neither vnode reaps during a diversion.
+//! - Rights are taken in one order.
+//! - A `copy_back` tries as many keys as it may.
+//! - A diversion ends, or begins again, if it may: no clause says that a refusal had to be.
+//!
+//! # Open
+//!
+//! No contract or test says:
+//!
+//! - that the tally at the diversion could be read. Without it the diversion doesn't end.
+//! - that `began` isn't less than it could be, if the caller's comparisons fail. The console of
+//!   `serve` is such a caller (`node_commands`).
 #![tactic(auto)]
 
 mod copy_step;

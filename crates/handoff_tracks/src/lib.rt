@@ -20,6 +20,24 @@
 //!
 //! What it costs: a call of the hand-off, and some comparisons of numbers. A partition takes some hundred
 //! bytes, made once.
+//!
+//! # Proved
+//!
+//! **The tracks of a partition's diversions are what each call of the hand-off gave, one behind
+//! another** (`HaveTracks`). If none is missing, each key's siblings at the primary are its joint
+//! ones behind the last return. `HandoffTracks` compares what passes and tallies say. A return may
+//! find entries of which no call told, as after a copy that was refused behind some of its keys.
+//! Then the partition isn't known any more. By the calls of `HandoffTracks`; law
+//! `known_hand_offs_join`.
+//!
+//! # Tested
+//!
+//! What is known isn't lost without need (`worker_tests`: `serving/controlled`;
+//! `scripts/maintain/try-control`, by the log).
+//!
+//! # Open
+//!
+//! No contract says that what is known isn't lost without need.
 #![tactic(auto)]
 
 mod calls;

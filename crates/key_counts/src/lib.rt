@@ -19,6 +19,21 @@
 //!
 //! What it costs: a search and a copy of each key, and a look at each sibling. Writes of that vnode wait
 //! while a piece is counted; those of the others don't.
+//!
+//! # Proved
+//!
+//! The count of a piece is exactly what is stored in its stretch of keys, at the end of all that
+//! the pass has seen then. The stretches stand one behind another, from the first key to the last,
+//! and each look is no earlier than the one before. Each number stops at
+//! 18,446,744,073,709,551,615. The same holds of each vnode of a hand-off, and of all together. By
+//! `count_at`, `count_partition`, `count_partitions`, `total_of`; law
+//! `unchanged_vnodes_are_counted_exactly`.
+//!
+//! # Tested
+//!
+//! - Keys at the edges of pieces (`worker_tests`: `returns/counts`).
+//! - Memory is refused only if there was none.
+//! - The console tells these numbers (`scripts/maintain/try-control`).
 #![tactic(auto)]
 
 mod counts;

@@ -33,6 +33,28 @@
 //! machine is its step (`specs/PlainNodes`). After each answer to a get, a put or a delete it forgets the
 //! first dead keys of that key's vnode, so many at most. `plain_node_is_register` is the law of its
 //! sessions.
+//!
+//! # Proved
+//!
+//! The output of `serve` is the session's output for the bytes that it read, over any reader,
+//! writer and node. Each step of a `Course` leaves less to be done, so a session ends. **A session
+//! over a plain node is one over the sibling register**: each reply but `no memory` is what the
+//! register answers at its place. By `serve`, the calls of `Course`, `Node`, `ReplyFrame` and
+//! `PlainNode`, `write_fault`, `exit_status`; laws `plain_node_is_register`, `read_limit`.
+//!
+//! # Tested
+//!
+//! Each frame is answered and flushed before the next read.
+//!
+//! # Open
+//!
+//! The contracts of streams show neither an error nor a flush, so no clause says:
+//!
+//! - that a write which failed isn't tried again;
+//! - that a read asks for all it may;
+//! - that what was written before a refusal of memory is flushed;
+//! - that `too many reads` comes only after all of them. No clause can say it, as an interrupted
+//!   read counts and leaves no trace.
 #![tactic(auto)]
 
 mod answering;

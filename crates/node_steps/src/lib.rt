@@ -66,6 +66,45 @@
 //! those of the theorem's world, whatever schedule led there (`specs/Kept`). What a worker does is told
 //! at one site by its turn, and of a closer's look and publish over all that runs but the workers
 //! (`specs/Closings`); `proofs/Taking` makes of it the step of the theorem's world.
+//!
+//! # Proved
+//!
+//! - **In whatever order any number of workers take their steps, each vnode has a history that one
+//!   thread could have made. Each reply is what the sibling register answers at one position of it,
+//!   not before what its caller had seen there. No dot is issued a second time. No value leaves a
+//!   key's siblings unless an accepted write or delete had seen it.** This is a theorem of a pure
+//!   world, whose steps are those of docs/SCHEDULES.md. The next five points are what `always` says
+//!   of which vnodes.
+//! - *Each vnode, whatever contexts are given.* A look shows the state after the whole log, and
+//!   each reply is the machine's there. No other step changes a log but a copy and a close. A close
+//!   comes only if each key of the fallback is copied as it is. No dot is issued twice at one
+//!   vnode.
+//! - *Where no command follows a copy: each fallback, and a primary until it is asked behind
+//!   copies.* Its history is legal, and the state is its replay. A key is in a life exactly if it
+//!   is defined. A value leaves only by a write or delete whose context covers its dot, or by a
+//!   delete without context. That command had seen it, if each context that was given for the key
+//!   there had been shown there.
+//! - *Each fallback, and a primary to which nothing was copied.* Each reply is the register's at
+//!   the end of that history.
+//! - *A partition behind copies, whatever contexts are given.* What happened is one course of
+//!   `copy_laws`, also from moment to moment. Two writes or deletes with one dot are one, whatever
+//!   their keys and sides. A value leaves a fallback's siblings only by a command that had seen it
+//!   and was accepted since.
+//! - *A key behind copies, if each context that was given for it in the partition had been shown
+//!   for it there.* The primary's log is legal for it, and each reply to a call of it is the
+//!   register's over all sides. The primary's siblings are the joint ones after each copy of it if
+//!   its fallback accepted nothing of it since, and once the fallback is closed. A value leaves
+//!   them only by a write or delete, of some side, that had seen it.
+//! - A `World` runs such schedules over real vnodes: a step returns what the theorem's step
+//!   returns, and leaves the theorem's world. `No` comes for each step that isn't possible and for
+//!   no other. Each running gate's history is that of a vnode after some schedule.
+//!
+//! By `World::new`, `step`, `run`; laws `always`, `runs_are_courses`, `needs_no_history`,
+//! `gates_are_scheduled`.
+//!
+//! # Open
+//!
+//! A request for which memory is refused may not have been possible.
 #![tactic(auto)]
 
 mod acts;

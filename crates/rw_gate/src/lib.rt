@@ -33,6 +33,27 @@
 //! pass and no thread. What lies in the slot knows a prefix of the history and is its replay, so where
 //! the length of that prefix is found in the word, it is the whole history, and the event that was
 //! prepared from the state may follow.
+//!
+//! # Proved
+//!
+//! The event of a publish is the request that was prepared, and the only one added. `Moved` comes
+//! only with a longer prefix, `Full` exactly at the last event. A reader comes in only if the state
+//! is in place and unmarked, a writer only if no reader is in. By the calls of `Gate`, `ReadRight`,
+//! `WriteRight` and `Pass`, and `ask`, `ask_under`, `ask_shown`.
+//!
+//! # Tested
+//!
+//! The word takes the steps of its definition and no others. `mark` and `unmark` answer as their
+//! docs say. A reader and a writer who wait are both served, also if other callers come and go.
+//!
+//! # Open
+//!
+//! No contract or test says:
+//!
+//! - that a look loads;
+//! - that `Moved` comes at all, and only behind a look;
+//! - what two passes have seen if both get `Moved` under one right;
+//! - that `write` marks the state while it waits.
 #![tactic(auto)]
 
 mod asking;

@@ -21,6 +21,16 @@
 //! leave 1                     4 ok
 //!                             plain equal
 //! ```
+//!
+//! # Proved
+//!
+//! The outcomes are so line for line, from any reader to any writer, and the last line comes at the
+//! end. `BadStep` comes just if a line asks for nothing or 100,000 lines were answered. By
+//! `steps_on`.
+//!
+//! # Tested
+//!
+//! Each line is answered before the next read.
 #![tactic(auto)]
 
 mod answer;

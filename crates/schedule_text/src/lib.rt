@@ -20,6 +20,17 @@
 //! copy 1 090a016212016b       worker 1 is asked to copy the key back to the primary
 //! close 1 0                   worker 1 is asked to close the fallback of partition 0
 //! ```
+//!
+//! # Proved
+//!
+//! A line is read exactly as what its text asks for, and is a bad step exactly if it asks for
+//! nothing. Lines of outcomes and verdicts, and the comparison with a plain register, are exact. By
+//! `read_line`, `write_outcome`, `write_verdict`, the calls of `Lines` and `Comparison`; law
+//! `a_line_asks_for_one_step`.
+//!
+//! # Open
+//!
+//! `no memory` may answer a line of the right form whose message is no request.
 #![tactic(auto)]
 
 mod comparison;

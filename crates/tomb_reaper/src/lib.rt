@@ -13,6 +13,12 @@
 //! sweep(&mut vnode, None, 10)      reaped: 1, more: false: b/k is forgotten
 //! sweep(&mut vnode, None, 10)      reaped: 0, more: false
 //! ```
+//!
+//! # Proved
+//!
+//! `sweep` forgets exactly the first dead keys at or after a key, as many as its budget at most.
+//! Each goes by a reap that the register accepts. `sweep` takes no memory. By `sweep` of
+//! `vnode_core`.
 #![tactic(auto)]
 
 pub use vnode_core::{Swept, sweep};

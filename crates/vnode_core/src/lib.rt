@@ -3,8 +3,7 @@
 //! A [`Vnode`] is the vnode machine (`State` in `specs/Machine` of `vnode_machine`), and each call is the
 //! machine's step (`outcome` in its `specs/Step`): each key that it holds has the actor of its life, but
 //! where it came by copies alone, and a clock whose live dots are its siblings. A command is refused, or
-//! planned by [`Vnode::prepare`] and made by [`Vnode::finish`]. At every history that may have led to its
-//! state, each call answers as the sibling register does (`Registers` in `specs/Plans`).
+//! planned by [`Vnode::prepare`] and made by [`Vnode::finish`].
 //!
 //! What a command comes to is the machine's outcome of it (`planned` in `specs/Plans`). A call that plans
 //! a command meets `Plans`, or refuses it as `Refuses` says; one that makes it meets `Steps`; and in each
@@ -24,7 +23,7 @@
 //! [`VnodeEvent`] that it makes in the gate's history, with its answer. [`histories_are_legal`] is the
 //! law of such a history.
 //!
-//! Dead keys stay, with their clocks, until a reap forgets them: [`sweep`] makes so many reaps at most, in key order.
+//! Dead keys stay, with their clocks, until a reap forgets them.
 //!
 //! A vnode may stand beside another, as the fallback of a primary: [`is_copied`] says whether the primary
 //! has a key as the fallback has it now, and [`count_left`] how many keys it hasn't so.
@@ -55,6 +54,30 @@
 //!
 //! Sources: the documentation of Riak's Protocol Buffers client API for get, put and delete, and of its actor epochs;
 //! dotted version vector sets (Preguiça, Baquero, Almeida, Fonte, Gonçalves) for dots, and for which siblings stay.
+//!
+//! # Proved
+//!
+//! - **At every history that led to the state, each answer and refusal is the sibling register's,
+//!   and a finished command is its next event.** This holds over every `ClockStore` (`Registers` in
+//!   `specs/Plans`), and so at every log that is legal for the key.
+//! - `prepare` refuses exactly as the machine checks, and by `no memory` only if the machine
+//!   accepts. The state stays. `refusal_without_memory` gives a put the same refusals, and makes no
+//!   room for it. `finish` takes no memory.
+//! - `reap` and `reap_first` forget dead keys alone. A copy syncs its key's two clocks, or is
+//!   stuck. A closed vnode answers `Closed`.
+//! - `sweep` forgets exactly the first dead keys at or after a key, in key order, as many as its
+//!   budget at most. Each goes by a reap that the register accepts. `sweep` takes no memory.
+//!
+//! By the calls of `Vnode`, `StoredReply` and `KeyCopy`, `is_copied`, `count_left`, `sweep`,
+//! `From<Refusal> for Text` and `impl Kept for Vnode`; law `histories_are_legal`.
+//!
+//! # Tested
+//!
+//! Calls with ample memory succeed. `finish` makes no allocation.
+//!
+//! # Open
+//!
+//! No contract or test says that room which was made and not used is given back.
 #![tactic(auto)]
 
 mod ask;
