@@ -3,7 +3,8 @@ ghost use Rattle.std.specs.Prelude.{◌≡◌, Some, IfOk, IfErr, IfSome, OnErr}
 ghost use mathlib.Core.List.{IsPrefix};
 ghost use Rattle.gate_node.specs.Asked.{ChangesOpen, GetsOpen, HasSeenClose, IsClosedWith};
 ghost use Rattle.gate_node.specs.Asked.{ComesOf, IsOfOpenVnode, IsShownOpen, ShowsOpen};
-ghost use Rattle.gate_node.specs.Passes.{AnswersAtFallback, AnswersBy, FindsClosed, FitsPartition, IsClosedBy};
+ghost use Rattle.gate_node.specs.Passes.{AnswersAtFallback, AnswersBy, FindsClosed};
+ghost use Rattle.gate_node.specs.Passes.{FitsPartition, IsClosedBy};
 
 use crate::gated_vnode::ask_seen;
 use crate::get_answer::GetAnswer;

@@ -3,7 +3,8 @@ ghost use Rattle.std.specs.Prelude.{◌≡◌, ◌<◌, ◌^◌, Some, IfOk, IfE
 ghost use Rattle.handoff.specs.Partitions.{IsFallback};
 ghost use Rattle.gate_node.specs.Asked.{Gets, GetsOpen};
 ghost use Rattle.gate_node.specs.GateStep.{AtIndex, AtClosed, AtIndexFrom};
-ghost use Rattle.gate_node.specs.GateStep.{AnswersError, AsksFallback, AtDiverted, AnswersAtPartition};
+ghost use Rattle.gate_node.specs.GateStep.{AnswersError, AsksFallback};
+ghost use Rattle.gate_node.specs.GateStep.{AtDiverted, AnswersAtPartition};
 
 use crate::diverted::get_diverted;
 use crate::gated_vnode::get_and_reap;

@@ -1,11 +1,13 @@
 //! A node over the gates of a run.
-ghost use Rattle.std.specs.Prelude.{◌≡◌, ◌<◌, ◌^◌, ◌⊎◌, Some, IfOk, IfErr, false, true, nat_le, slice_get};
+ghost use Rattle.std.specs.Prelude.{◌≡◌, ◌<◌, ◌^◌, ◌⊎◌};
+ghost use Rattle.std.specs.Prelude.{Some, IfOk, IfErr, false, true, nat_le, slice_get};
 ghost use Rattle.handoff.specs.Partitions.{IsFallback};
 ghost use Rattle.stats_book.specs.Counting.{ArePastFull, zeros};
 ghost use Rattle.stats_book.specs.Holdings.{AllAre};
 ghost use Rattle.gate_node.specs.Asked.{Changes, ChangesOpen};
 ghost use Rattle.gate_node.specs.GateStep.{AtIndex, AtClosed, LooksAtPrimary, AtIndexFrom};
-ghost use Rattle.gate_node.specs.GateStep.{AnswersError, AsksFallback, AtDiverted, AnswersAtPartition, events_seen};
+ghost use Rattle.gate_node.specs.GateStep.{AnswersError, AsksFallback, AtDiverted};
+ghost use Rattle.gate_node.specs.GateStep.{AnswersAtPartition, events_seen};
 ghost use Rattle.gate_node.specs.Passes.{ArePassesOf};
 
 use crate::diverted::change_diverted;
@@ -89,12 +91,17 @@ impl<'a, W: Wait, T: Turnstile, G: Ledger, P: Ledger, D: Ledger, E: Ledger, R: L
 
     ghost view = { λ n. record {
       shared = n.shared.now;
-      passes = record { primaries = n.primaries.items; fallbacks = places_of n.size n.fallbacks.items };
+      passes = record {
+        primaries = n.primaries.items;
+        fallbacks = places_of n.size n.fallbacks.items;
+      };
       count = n.counter;
     } };
 
-    ghost invariant = { λ n. ArePassesOf n.shared.now
-        (record { primaries = n.primaries.items; fallbacks = places_of n.size n.fallbacks.items }) };
+    ghost invariant = { λ n. ArePassesOf n.shared.now (record {
+      primaries = n.primaries.items;
+      fallbacks = places_of n.size n.fallbacks.items;
+    }) };
 }
 
 impl<'a, W: Wait, T: Turnstile, G: Ledger, P: Ledger, D: Ledger, E: Ledger, R: Ledger> GateNode<

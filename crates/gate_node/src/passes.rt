@@ -1,7 +1,8 @@
 //! A caller's passes of the gates of a run, and of the fallbacks that it met.
 ghost use Rattle.std.specs.Prelude.{◌≡◌, IfOk, IsOkUnless, All, length, map, true};
 ghost use Rattle.handoff.specs.Partitions.{AreNone};
-ghost use Rattle.gate_node.specs.Passes.{ArePassesOf, AreUnused, IsUnused, FitsPartition, IsRenewed, is_pass_of, places_of};
+ghost use Rattle.gate_node.specs.Passes.{ArePassesOf, AreUnused, IsUnused};
+ghost use Rattle.gate_node.specs.Passes.{FitsPartition, IsRenewed, is_pass_of, places_of};
 
 use crate::fault::PoolFault;
 use crate::shared::Shared;

@@ -1,6 +1,7 @@
 //! The replies for what came of an ask, and what they are counted as.
 ghost use Rattle.std.specs.Prelude.{◌≡◌};
-ghost use Rattle.gate_node.specs.Asked.{answer_quantity, get_quantity, outcome_quantity, outcome_reply, told_quantity};
+ghost use Rattle.gate_node.specs.Asked.{answer_quantity, get_quantity, outcome_quantity};
+ghost use Rattle.gate_node.specs.Asked.{outcome_reply, told_quantity};
 
 use node_session::answer_reply;
 use riak_msgs::{Reply, Text};

@@ -4,7 +4,8 @@ ghost use Rattle.crossbeam_queue.specs.Passes.{view, IsPassOf};
 ghost use Rattle.job_pool.specs.Giving.{GivesOnly, Leaves};
 ghost use Rattle.job_pool.specs.Lists.{Every};
 ghost use Rattle.job_pool.specs.Queue.{leader};
-ghost use Rattle.job_pool.specs.Telling.{HasPlaces, IsEmpty, TellsEachOnce, TellsGiven, ToldThenFailed};
+ghost use Rattle.job_pool.specs.Telling.{HasPlaces, IsEmpty};
+ghost use Rattle.job_pool.specs.Telling.{TellsEachOnce, TellsGiven, ToldThenFailed};
 ghost use Rattle.job_pool.specs.Workers.{IsNew, IsOfRun, IsOn, state_before, worker_of};
 ghost use Rattle.job_pool.specs.declared.fault.RunFault.TheVariants.{JobsFailed};
 

@@ -37,7 +37,8 @@ impl<C: Read + Write> Promise<Hearing<C>> for KnowsTracks {
     ghost use Rattle.gate_node.specs.Gates.{handoff_of};
     ghost use Rattle.handoff_tracks.specs.Tracks.{HaveTracks};
 
-    ghost kept_by = { λ promise hearing. HaveTracks (handoff_of promise.shared.value) hearing.tracks };
+    ghost kept_by = { λ promise hearing.
+        HaveTracks (handoff_of promise.shared.value) hearing.tracks };
 }
 
 /// Hears an operator until the workers are to be paused or stopped, or serving has ended.

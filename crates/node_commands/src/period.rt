@@ -189,7 +189,8 @@ where
         thread::scope_env(),
         rt,
         |scope| -> Result<(Progress, Hearing<C>), ServeFault>
-            requires workers { (1 ≤ length waits.workers.items) × (length waits.workers.items ≤ 64) }
+            requires workers { (1 ≤ length waits.workers.items)
+                × (length waits.workers.items ≤ 64) }
             requires ready { IsReady shared.now progress }
             requires limit { IfSome settings.now.connections
                 (λ limit. progress.connections ≤ limit) }

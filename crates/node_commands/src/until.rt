@@ -186,7 +186,8 @@ where
         thread::scope_env(),
         rt,
         |scope| -> Result<ServedUntil<'_, T>, ServeFault>
-            requires workers { (1 ≤ length waits.workers.items) × (length waits.workers.items ≤ 64) }
+            requires workers { (1 ≤ length waits.workers.items)
+                × (length waits.workers.items ≤ 64) }
             requires stops { until ≡ None → can_stop ≡ false }
             ensures served { IfOk result (λ outcome. AreTold shared.entry.now outcome.served
                 outcome.tallies outcome.connections outcome.closed) }

@@ -2,7 +2,8 @@
 
 ghost use Rattle.std.specs.Prelude.{◌≡◌, OnOk};
 ghost use Rattle.std.specs.Io.KnownBytes.{Appends};
-ghost use Rattle.riak_node.specs.Conclusions.{error_line, left_line, line_of, rest_line, status_of, steps_fault_line};
+ghost use Rattle.riak_node.specs.Conclusions.{error_line, left_line, line_of, rest_line};
+ghost use Rattle.riak_node.specs.Conclusions.{status_of, steps_fault_line};
 
 use node_commands::ServeFault;
 use node_session::{Ended, SessionFault, exit_status, write_fault};

@@ -4,7 +4,8 @@ ghost use Rattle.std.specs.Prelude.{◌≤◌, codes, IfSome};
 ghost use Rattle.clap.specs.Matches.{found_of};
 ghost use Rattle.riak_node.specs.Options.{AreConnectionLines, AreServingOptions, IsAddress};
 ghost use Rattle.riak_node.specs.Options.{IsNumber, IsNumberIfGiven};
-ghost use Rattle.riak_node.specs.Options.{ArePipeOptions, AreServeOptions, AreStepsOptions, IsCommand};
+ghost use Rattle.riak_node.specs.Options.{ArePipeOptions, AreServeOptions, AreStepsOptions};
+ghost use Rattle.riak_node.specs.Options.{IsCommand};
 
 use crate::connection_lines::ConnectionLines;
 use crate::subcommand::{PipeOptions, ServeOptions, StepsOptions, Subcommand};

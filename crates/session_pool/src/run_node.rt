@@ -77,7 +77,8 @@ impl<'a, W: Wait, T: Turnstile, G: Ledger, P: Ledger, D: Ledger, E: Ledger, L: L
       before = n.rest.count.counted;
     } };
 
-    ghost invariant = { λ n. (n.node.shared ≡ n.shared.now) × IsLater (gates_in n.at) n.shared.now };
+    ghost invariant = { λ n. (n.node.shared ≡ n.shared.now)
+        × IsLater (gates_in n.at) n.shared.now };
 }
 
 /// Where a node of a run stands.

@@ -191,11 +191,13 @@ where
         end: LeftSession<R, W>,
     )
         requires served { (first : Totals) × (last : Totals)
-            × CountsInStay Q.can_be_raised R.remaining W.contents service.now first job.value last end }
+            × CountsInStay Q.can_be_raised R.remaining W.contents service.now
+            first job.value last end }
         requires room { (n : ℕ) × HasRoom K.has_room self.old (n + 1) }
         ensures told { self.new.told
             ≡ self.old.told ++ record { number = number; end = end } ∷ [] }
-        ensures room { (n : ℕ) → HasRoom K.has_room self.old (n + 1) → HasRoom K.has_room self.new n }
+        ensures room { (n : ℕ) → HasRoom K.has_room self.old (n + 1)
+            → HasRoom K.has_room self.new n }
     {
         let next = NumberedEnd { number, end };
         self.told.push(&next);

@@ -1,5 +1,6 @@
 //! The connections of a listener as a source of jobs.
-ghost use Rattle.std.specs.Prelude.{◌≡◌, ◌+◌, ◌<◌, ◌≤◌, ◌^◌, Some, true, false, IfSome, IfNone, IfOk};
+ghost use Rattle.std.specs.Prelude.{◌≡◌, ◌+◌, ◌<◌, ◌≤◌, ◌^◌};
+ghost use Rattle.std.specs.Prelude.{Some, true, false, IfSome, IfNone, IfOk};
 ghost use Rattle.worker_pool.specs.Serving.{ArePassesOf, AreUnused};
 ghost use Rattle.socket_streams.specs.Arriving.{ArrivalsView, IsSameSource, IsNewConnection};
 
@@ -302,7 +303,8 @@ where
     /// Counts a connection that was closed for want of memory, where it counts.
     fn count_refused(&mut self)
         requires room { self.old.given + self.old.refused + 1 < 2 ^ 64 }
-        requires below { IfSome self.old.limit (λ limit. self.old.given + self.old.refused < limit) }
+        requires below { IfSome self.old.limit
+            (λ limit. self.old.given + self.old.refused < limit) }
         ensures same { IsSameSource self.old self.new }
         ensures given { self.new.given ≡ self.old.given }
     {
@@ -314,7 +316,8 @@ where
     /// The job of a connection that was accepted from `peer`, which is logged and counted. None where it had to be closed.
     fn take(&mut self, stream: TcpStream, peer: SocketAddr) -> Option<Job<RequestHalf, ReplyHalf>>
         requires room { self.old.given + self.old.refused + 1 < 2 ^ 64 }
-        requires below { IfSome self.old.limit (λ limit. self.old.given + self.old.refused < limit) }
+        requires below { IfSome self.old.limit
+            (λ limit. self.old.given + self.old.refused < limit) }
         ensures same { IsSameSource self.old self.new }
         ensures given { IfSome result (λ job. IsNewConnection self.old.gates job
             × (self.new.given ≡ self.old.given + 1)) }
@@ -335,7 +338,8 @@ where
 
     /// Accepts a connection. None where none waited, which was waited for, or one had to be closed.
     fn accept(&mut self) -> Result<Option<Job<RequestHalf, ReplyHalf>>, JobFault>
-        requires below { IfSome self.old.limit (λ limit. self.old.given + self.old.refused < limit) }
+        requires below { IfSome self.old.limit
+            (λ limit. self.old.given + self.old.refused < limit) }
         ensures same { IsSameSource self.old self.new }
         ensures given { IfOk result (λ next. IfSome next (λ job. IsNewConnection self.old.gates job
             × (self.new.given ≡ self.old.given + 1))) }

@@ -1,6 +1,7 @@
 //! The two halves of a connection over a socket that needs not wait.
 
-ghost use Rattle.std.specs.Prelude.{◌≡◌, ◌≤◌, ◌++◌, [], take, drop, length, Some, IfOk, OnOk, OnErr};
+ghost use Rattle.std.specs.Prelude.{◌≡◌, ◌≤◌, ◌++◌, [], take, drop, length};
+ghost use Rattle.std.specs.Prelude.{Some, IfOk, OnOk, OnErr};
 ghost use Rattle.std.specs.Io.KnownBytes.{WriteAppends};
 ghost use Rattle.socket_streams.specs.Sending.{written};
 

@@ -26,11 +26,13 @@ impl<G: Ledger, P: Ledger, D: Ledger, E: Ledger, R: Ledger> Model for Holding<G,
 
     ghost view = { λ h. record {
       shares = h.gets.parts;
-      counted = numbers h.gets.amount h.puts.amount h.deletes.amount h.refusals.amount h.reaps.amount;
+      counted = numbers h.gets.amount h.puts.amount h.deletes.amount
+          h.refusals.amount h.reaps.amount;
     } };
 
     ghost invariant = { λ h.
-        AllAre h.gets.parts h.gets.parts h.puts.parts h.deletes.parts h.refusals.parts h.reaps.parts };
+        AllAre h.gets.parts h.gets.parts h.puts.parts h.deletes.parts
+        h.refusals.parts h.reaps.parts };
 }
 
 impl<G: Ledger, P: Ledger, D: Ledger, E: Ledger, R: Ledger> Holding<G, P, D, E, R> {

@@ -1,6 +1,8 @@
 //! The numbers of a book, as they lie under its lock.
-ghost use Rattle.std.specs.Prelude.{◌≡◌, ◌≤◌, ◌↔◌, IfErr, IfOk, IsErrOf, IsOkUnless, MatchResult, vec_len};
-ghost use Rattle.stats_book.specs.Counting.{ArePastFull, IsFull, both, number_of, raised, sum_of, zeros};
+ghost use Rattle.std.specs.Prelude.{◌≡◌, ◌≤◌, ◌↔◌};
+ghost use Rattle.std.specs.Prelude.{IfErr, IfOk, IsErrOf, IsOkUnless, MatchResult, vec_len};
+ghost use Rattle.stats_book.specs.Counting.{ArePastFull, IsFull};
+ghost use Rattle.stats_book.specs.Counting.{both, number_of, raised, sum_of, zeros};
 ghost use Rattle.stats_book.specs.Holdings.{AllAre};
 
 use crate::blanks::Blanks;

@@ -84,7 +84,8 @@ where
     ensures ends { IfOk result (λ closed.
         map counted_whole closed.ends.items ≡ finished.ends.items) }
     ensures history { IfOk result (λ closed.
-        ShareHistories end_passes shared.now.gates closed.ends.items closed.tallies.items closed.count_all) }
+        ShareHistories end_passes shared.now.gates closed.ends.items
+        closed.tallies.items closed.count_all) }
     ensures totals { IfOk result (λ closed. closed.totals ≡ sum_of finished.workers.items) }
     ensures fault { IfErr result (IsFaultAfter finished.ends.items) }
 {
