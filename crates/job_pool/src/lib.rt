@@ -1,30 +1,40 @@
-//! A pool of workers: each job of a source is served once, by one of many threads, which have many jobs open at a time.
+//! A pool of workers: each job of a source is served once, by one of many threads, which have many
+//! jobs open at a time.
 //!
-//! What it means: a [`Service`] serves a job in steps; when the job is over, `close` brings it to its end and takes the worker from one
-//! state to its next. That is a turn (`specs/Turns`): a worker in one state, a job, the next state and the job's end. [`run`] takes all
-//! jobs of a [`Jobs`] source and gives one end for each, in the order in which the source gave the jobs (`specs/Giving`:
-//! `AllServedOnce`). There is one turn for each job, and these turns are those of the workers: the turns of one worker lead from the
-//! state that was handed in to the one that comes back. So no end is made up, none is another job's, no job is served twice, and what
-//! the workers' states gained is what the turns gained, each counted once. Nothing is said of which worker serves which job, nor when.
+//! What it means: a [`Service`] serves a job in steps; when the job is over, `close` brings it to
+//! its end and takes the worker from one state to its next. That is a turn (`specs/Turns`): a
+//! worker in one state, a job, the next state and the job's end. [`run`] takes all jobs of a
+//! [`Jobs`] source and gives one end for each, in the order in which the source gave the jobs
+//! (`specs/Giving`: `AllServedOnce`). There is one turn for each job, and these turns are those of
+//! the workers: the turns of one worker lead from the state that was handed in to the one that
+//! comes back. So no end is made up, none is another job's, no job is served twice, and what the
+//! workers' states gained is what the turns gained, each counted once. Nothing is said of which
+//! worker serves which job, nor when.
 //!
-//! [`run_at`] keeps no end, and so may go on for months (`specs/Telling`: `TellsEachOnce`): what a worker's [`Sink`] was told are the
-//! ends of that worker's turns, and each job was told once or refused for want of memory, and counted. What a sink is told comes with
-//! its proof: `tell` requires that this end is one of a turn with this very job. So that holds of each end while the run goes on,
-//! whether or not it ever returns.
+//! [`run_at`] keeps no end, and so may go on for months (`specs/Telling`: `TellsEachOnce`): what a
+//! worker's [`Sink`] was told are the ends of that worker's turns, and each job was told once or
+//! refused for want of memory, and counted. What a sink is told comes with its proof: `tell`
+//! requires that this end is one of a turn with this very job. So that holds of each end while the
+//! run goes on, whether or not it ever returns.
 //!
-//! What it costs: a job goes through one queue of [`MAX_WAITING`] places, is moved and not copied, and takes no lock. In `run` all
-//! workers are woken after each push, and a worker has one job open ([`Rounds`]); in `run_at` a job is meant for a worker whose [`Bell`]
-//! tells the least load, and that one alone is woken; [`run_with`] is `run` over any readiness. Where the queue is full the leading thread sleeps, and a worker that took a task wakes it.
-//! A run takes memory for the queue, a thread for each worker and a parker for the leading thread; `run` also for a parker for each
+//! What it costs: a job goes through one queue of [`MAX_WAITING`] places, is moved and not copied,
+//! and takes no lock. In `run` all workers are woken after each push, and a worker has one job open
+//! ([`Rounds`]); in `run_at` a job is meant for a worker whose [`Bell`] tells the least load, and
+//! that one alone is woken; [`run_with`] is `run` over any readiness. Where the queue is full the
+//! leading thread sleeps, and a worker that took a task wakes it. A run takes memory for the queue,
+//! a thread for each worker and a parker for the leading thread; `run` also for a parker for each
 //! worker, and a place for each end, twice. A worker takes memory for each job that it has open.
 //!
-//! How it is built: the queue is under a rule (`specs/Queue`: `AllGiven`): what lies in it, and what each worker took, is a job that was
-//! given, under its number, and each job that was given waits in it or was taken once, since whatever the numbers weigh, the sums are
-//! the same. A worker's desk has its open jobs in slots (`specs/Desks`): each job that it took is open, or its end was told, or it was
-//! refused, once. When it stops none is open. The leading thread joins it, learns by the rule that what it took are jobs that were
-//! given, and compares the counts: so none is lost. `run` is such a run whose sinks keep all ends; it lays each into the place of its
-//! number. What a worker waits with ([`Readiness`]) decides which slots have their turn, and when that ends, and no clause speaks of that. A source comes
-//! by `&mut`, and no clause follows a `&mut` through a scope of threads, so it goes through as a value that comes back (`Lent`).
+//! How it is built: the queue is under a rule (`specs/Queue`: `AllGiven`): what lies in it, and
+//! what each worker took, is a job that was given, under its number, and each job that was given
+//! waits in it or was taken once, since whatever the numbers weigh, the sums are the same. A
+//! worker's desk has its open jobs in slots (`specs/Desks`): each job that it took is open, or its
+//! end was told, or it was refused, once. When it stops none is open. The leading thread joins it,
+//! learns by the rule that what it took are jobs that were given, and compares the counts: so none
+//! is lost. `run` is such a run whose sinks keep all ends; it lays each into the place of its
+//! number. What a worker waits with ([`Readiness`]) decides which slots have their turn, and when
+//! that ends, and no clause speaks of that. A source comes by `&mut`, and no clause follows a
+//! `&mut` through a scope of threads, so it goes through as a value that comes back (`Lent`).
 //!
 //! ```text
 //! source gives 5, 6, 7; the service doubles; two workers, which count what they served, from 0
@@ -35,6 +45,23 @@
 //! places after a, b     10 _ 14       10 12 14
 //! run returns           ends 10, 12, 14; workers 2, 1
 //! ```
+//!
+//! # Proved
+//!
+//! What the head says under *What it means* holds too of the jobs that a source gave before it
+//! failed. If a thread is refused, no job was taken. By `run`, `run_with`, `run_at`, and the
+//! clauses of `Service`, `Sink` and `Jobs`.
+//!
+//! # Tested
+//!
+//! Who has a turn, and who is woken.
+//!
+//! # Open
+//!
+//! - That a run returns.
+//! - That jobs are served side by side.
+//! - That an open job has a turn.
+//! - That `NoMemory` comes only if memory was refused.
 #![tactic(auto)]
 
 mod collect;

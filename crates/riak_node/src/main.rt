@@ -1,8 +1,10 @@
 //! The node as a program.
 //!
-//! `riak_node serve` serves connections, each a stream of requests of Riak's Protocol Buffers client API in frames, and their replies in
-//! frames. `riak_node pipe` serves standard input to standard output in the same way. `riak_node steps` plays a schedule of workers' steps,
-//! a line in and a line out. With `--control` an operator says on standard input what `serve` is to do, and with `--control-port` over TCP.
+//! `riak_node serve` serves connections, each a stream of requests of Riak's Protocol Buffers
+//! client API in frames, and their replies in frames. `riak_node pipe` serves standard input to
+//! standard output in the same way. `riak_node steps` plays a schedule of workers' steps, a line in
+//! and a line out. With `--control` an operator says on standard input what `serve` is to do, and
+//! with `--control-port` over TCP.
 //!
 //! ```text
 //! $ riak_node serve --until-eof < /dev/tty
@@ -22,12 +24,33 @@
 //! 0000000102
 //! ```
 //!
-//! Each ends with status 0 at the end of its input, or of its last connection, with 1 and one line on standard error where it had to stop before, and with 2 where the command line is
-//! none of its own. Where that line can't be written the status is the same. A signal ends `serve` at once.
+//! Each ends with status 0 at the end of its input, or of its last connection, with 1 and one line
+//! on standard error where it had to stop before, and with 2 where the command line is none of its
+//! own. Where that line can't be written the status is the same. A signal ends `serve` at once.
 //!
-//! Each option is read by its name (`specs/Options`), each command is what its options ask for, and each line and status is of one table
-//! (`specs/Conclusions`). What `clap` takes as an option and puts in for one that isn't given, no clause says. Nothing is read or opened
-//! before the command line and the ring were found good.
+//! Nothing is read or opened before the command line and the ring were found good.
+//!
+//! # Proved
+//!
+//! Each option is `clap`'s value of the option of that name, within its range or one of its words
+//! (`specs/Options`). Each command is what its options ask for. The line and the status of each end
+//! are of one table (`specs/Conclusions`). `serve` has a console exactly if `--control` or
+//! `--control-port` asks for one. By `command_of`, `serve_by_options`, `Conclusion::write_line`,
+//! `Conclusion::status`.
+//!
+//! # Tested
+//!
+//! - Over which channel the console is, and all of the port.
+//! - That nobody waits for the log, and which lines it has (`try-command-line`, `try-control`).
+//! - What the scripts of `docs/CHANGING.md` try, and `pipe` on one stored input.
+//!
+//! # Open
+//!
+//! - That `main` hands on the options that it read.
+//! - What `clap` takes as an option, and which defaults it puts in.
+//! - That `listening` comes first.
+//! - How many replies of `pipe` went out if a write failed.
+//! - Tried by no test: `too many reads`, `accept failed`, `book full`.
 #![tactic(auto)]
 
 ghost use Rattle.std.specs.Prelude.{◌≡◌};
@@ -80,7 +103,8 @@ use std::sync::Wait;
 use std::thread::Threads;
 use subcommand::{PipeOptions, ServeOptions, StepsOptions, Subcommand};
 
-/// Writes the line that a command ends with on standard error, and returns its status, which is the same where the line can't be written.
+/// Writes the line that a command ends with on standard error, and returns its status, which is the
+/// same where the line can't be written.
 fn conclude(rt: &HostRuntime, conclusion: Conclusion) -> ExitCode
     ensures { exit_status result ≡ status_of conclusion }
 {
@@ -106,8 +130,8 @@ fn arguments(rt: &HostRuntime) -> Result<Vec<String>, Conclusion> {
     }
 }
 
-/// Writes what `clap` has to say of a command line, and returns the status. A mistake has its status whether or not its text can be written;
-/// help that can't be is a fault.
+/// Writes what `clap` has to say of a command line, and returns the status. A mistake has its
+/// status whether or not its text can be written; help that can't be is a fault.
 fn tell(rt: &HostRuntime, error: clap::Error) -> ExitCode {
     if error.kind() == ErrorKind::OutOfMemory {
         return conclude(rt, Conclusion::NoMemory);
@@ -119,8 +143,9 @@ fn tell(rt: &HostRuntime, error: clap::Error) -> ExitCode {
     ExitCode::from(status)
 }
 
-/// Serves standard input to standard output, by a ring of the asked size if there is one. The replies to what one read brought are gathered
-/// for one write, up to 8,192 bytes. Where a write failed some are left, which are neither counted nor tried again.
+/// Serves standard input to standard output, by a ring of the asked size if there is one. The
+/// replies to what one read brought are gathered for one write, up to 8,192 bytes. Where a write
+/// failed some are left, which are neither counted nor tried again.
 fn serve_streams(rt: &HostRuntime, options: PipeOptions) -> Conclusion {
     let ring = match ring_of(options.ring) {
         Ok(ring) => ring,

@@ -1,32 +1,66 @@
 //! Workers that serve sessions over the gates of a run, and can lay them down between two of their steps.
 //!
-//! What it means: [`serve`] takes all sessions of a source, each new or one that rested, and serves each to its end, or, once its pause is raised, until
-//! its next turn. A [`Suspended`] session has come so far from its first read on; nothing that it has read is lost, nor anything that it has to
-//! send. It goes on by a later run, over the same gates or over what these became by diversions. Whatever its rests, what a sink is told of its end is
-//! what `serve` of `node_session` promises of a session, by a node over the gates as they were at each step (`specs/Resuming`: `RunStep`;
-//! `specs/Leaving`: `EndsOver`). Each session that is given is told, rests or was refused, once, and counted so (`specs/Telling`: `TellsAll`).
+//! What it means: [`serve`] takes all sessions of a source, each new or one that rested, and serves
+//! each to its end, or, once its pause is raised, until its next turn. A [`Suspended`] session has
+//! come so far from its first read on; nothing that it has read is lost, nor anything that it has
+//! to send. It goes on by a later run, over the same gates or over what these became by diversions.
 //!
 //! ```text
 //! let mut seen = Passes::new(alloc, &shared)?;
-//! let first = Suspended::new(alloc, &shared, passes, reader, writer);                 // as many as are wanted, by a source of jobs
+//! // as many as are wanted, by a source of jobs
+//! let first = Suspended::new(alloc, &shared, passes, reader, writer);
 //! let served = serve(&rt, alloc, &shared, &mut sessions, seats, &Open, &pause, &mut seen)?;
-//! served.resting                                                                      // had an answer half written, say
+//! // had an answer half written, say
+//! served.resting
 //! let mut handoff = shared.into_handoff();
 //! handoff.divert(alloc, 0)?;
 //! let later = Shared::over(handoff, budget, reads);
-//! serve(&rt, alloc, &later, &mut resting, seats, &Open, &NoPause, &mut seen)?          // it sends the rest, and goes on at the fallback
-//! tallies_of(&rt, alloc, &later, slice::from_ref(&seen))                              // of one history of each vnode, through both runs
+//! // it sends the rest, and goes on at the fallback
+//! serve(&rt, alloc, &later, &mut resting, seats, &Open, &NoPause, &mut seen)?
+//! // of one history of each vnode, through both runs
+//! tallies_of(&rt, alloc, &later, slice::from_ref(&seen))
 //! ```
 //!
-//! What it costs: what a run of `job_pool` costs, the book's lock once for each session and run, and a thread for each worker. A session that rests
-//! takes its streams, its passes and what it has in part, as one that is open does; to lay it down and to go on take no memory, beside a place for each
-//! that a worker has open.
+//! What it costs: what a run of `job_pool` costs, the book's lock once for each session and run,
+//! and a thread for each worker. A session that rests takes its streams, its passes and what it has
+//! in part, as one that is open does; to lay it down and to go on take no memory, beside a place
+//! for each that a worker has open.
 //!
-//! How it is built: an open session ([`Stay`]) is a service of `job_pool`. It has a node of its own, over its passes and a share of the book that has counted
-//! nothing, and where it is left the worker takes the share back. So what a step changes is that session's alone. For clauses its node
-//! ([`RunNode`]) stands where the session rested, until its next step is taken over the gates as they are then. So what was said of the session so far
-//! is said of it. What says where is a [`Rest`], which has no bytes. Of two passes of a gate the one behind has seen a beginning of what the other has: so
-//! passes that are laid together with those of each session that is over have seen all that these had, through as many runs as are wanted.
+//! How it is built: an open session ([`Stay`]) is a service of `job_pool`. It has a node of its
+//! own, over its passes and a share of the book that has counted nothing, and where it is left the
+//! worker takes the share back. So what a step changes is that session's alone. For clauses its
+//! node ([`RunNode`]) stands where the session rested, until its next step is taken over the gates
+//! as they are then. So what was said of the session so far is said of it. What says where is a
+//! [`Rest`], which has no bytes. Of two passes of a gate the one behind has seen a beginning of
+//! what the other has: so passes that are laid together with those of each session that is over
+//! have seen all that these had, through as many runs as are wanted.
+//!
+//! # Proved
+//!
+//! Each session that a source gave was refused, or ended and a sink was told its end, or rests,
+//! once, and was counted so (`specs/Telling`: `TellsAll`). The totals are what these sessions
+//! counted. What a sink is told, while the run goes on too, is the end of a session from its first
+//! read on (`IsToldEnd`; `specs/Leaving`: `EndsOver`). Its node stands over the gates as they were
+//! at each step (`specs/Resuming`: `RunStep`). So what `serve` of `node_session` promises goes
+//! through every rest.
+//!
+//! All sessions see one history of the primary of each partition, through as many runs as `seen` is
+//! handed on to. A session rests only if the pause can be raised. `BookFull` comes only if all
+//! sessions were given.
+//!
+//! By `serve`, `Suspended::new`; laws `told_sessions_are_at_positions`, `told_sessions_are_legal`,
+//! `sessions_go_on`, `sessions_stay_in_their_run`, `sessions_are_at_positions`.
+//!
+//! # Tested
+//!
+//! - The totals equal the sums of the tallies. No clause says that each event is some session's.
+//! - A run ends once its pause is raised.
+//! - Runs pause at each of their steps.
+//!
+//! # Open
+//!
+//! - What is left of the sessions if a run ends by a fault behind its first session.
+//! - That the fallback of a diverted partition has one history for all connections.
 #![tactic(auto)]
 
 mod end_sink;

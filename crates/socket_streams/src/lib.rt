@@ -1,31 +1,62 @@
-//! Sockets as the streams of a pool's sessions: a listener is a source of sessions, behind those that rest, and each worker serves many connections,
-//! each as its socket is ready.
+//! Sockets as the streams of a pool's sessions: a listener is a source of sessions, behind those
+//! that rest, and each worker serves many connections, each as its socket is ready.
 //!
 //! ```text
-//! let (waits, stop) = new_run_waits(&rt, alloc, 4)?;                          // four workers; each run has its own
-//! let seats = new_seats(&rt, alloc, &stop, waits.workers, waiting)?;          // for each a sink, a readiness and a bell
-//! let limits = Limits { connections: Some(9), counts_refused: true, can_stop: true, keeps_back: true, tries: None };
+//! // four workers; each run has its own
+//! let (waits, stop) = new_run_waits(&rt, alloc, 4)?;
+//! // for each a sink, a readiness and a bell
+//! let seats = new_seats(&rt, alloc, &stop, waits.workers, waiting)?;
+//! let limits = Limits {
+//!     connections: Some(9), counts_refused: true, can_stop: true, keeps_back: true, tries: None,
+//! };
 //! let arrivals = Arrivals::new(&rt, alloc, &listener, waits.accepting, &shared, &stop, limits)?;
-//! let mut sessions = Sessions::new(alloc, arrivals, rested);                  // `resting` of the run before; none at first
-//! serve(&rt, alloc, &shared, &mut sessions, seats, &Open, &stop, &mut seen)   // of `session_pool`
-//! stop.pause()                                                                // by another thread: it returns, and what is open rests
+//! // `resting` of the run before; none at first
+//! let mut sessions = Sessions::new(alloc, arrivals, rested);
+//! // of `session_pool`
+//! serve(&rt, alloc, &shared, &mut sessions, seats, &Open, &stop, &mut seen)
+//! // by another thread: it returns, and what is open rests
+//! stop.pause()
 //! ```
 //!
-//! What it means: [`Arrivals`] gives new connections of a run's gates, so many at most, and counts those that it closed for want of memory
-//! (`specs/Arriving`). [`Sessions`] gives each session that rests, once, and then one that is to begin for each of these connections
-//! (`specs/Sessions`). [`LogSink`] was told just the ends that it was told. What comes over a socket, who is ready, whose turn it is, when a
-//! session rests, and what is logged, no clause says.
+//! What it means: [`Arrivals`] gives new connections of a run's gates, so many at most, and counts
+//! those that it closed for want of memory (`specs/Arriving`). [`Sessions`] gives each session that
+//! rests, once, and then one that is to begin for each of these connections (`specs/Sessions`:
+//! `GivesSession`). [`LogSink`] was told just the ends that it was told.
 //!
-//! What it costs: a connection takes a descriptor, its passes, and 80 bytes beside its session; its replies are gathered in up to
-//! 8,192 bytes until what was read is answered, and go out by one write; of a read that took less than it had room for the next needs no
-//! call of the system (`Connection`). A worker takes no memory before all threads are started.
+//! What it costs: a connection takes a descriptor, its passes, and 80 bytes beside its session; its
+//! replies are gathered in up to 8,192 bytes until what was read is answered, and go out by one
+//! write; of a read that took less than it had room for the next needs no call of the system
+//! (`Connection`). A worker takes no memory before all threads are started.
 //!
-//! How it is built: the leading thread waits at the listener, and rings the bell of a worker with the fewest connections, of which one that had a turn
-//! lately counts as four. A worker waits with `mio` for its sockets and its bell ([`SocketDesk`]), and gives each connection that is ready a turn,
-//! which ends once it has moved 64 KiB or taken a millisecond. Where nobody waits for a client any more
-//! (it was silent for too long, or serving is stopped), its connection has one ordinary turn, and then one in which it ends rather than wait. Where the
-//! run is paused each connection has one turn, in which the pool lays it down: its socket stays open and takes what its client sends, and the
-//! desk of a later run watches it anew.
+//! How it is built: the leading thread waits at the listener, and rings the bell of a worker with
+//! the fewest connections, of which one that had a turn lately counts as four. A worker waits with
+//! `mio` for its sockets and its bell ([`SocketDesk`]), and gives each connection that is ready a
+//! turn, which ends once it has moved 64 KiB or taken a millisecond. Where nobody waits for a
+//! client any more (it was silent for too long, or serving is stopped), its connection has one
+//! ordinary turn, and then one in which it ends rather than wait. Where the run is paused each
+//! connection has one turn, in which the pool lays it down: its socket stays open and takes what
+//! its client sends, and the desk of a later run watches it anew.
+//!
+//! # Proved
+//!
+//! Beside what the head says: each connection that `Arrivals` gives has new passes, and how many it
+//! gave is counted too. What was written to a connection is three parts, one behind another: what
+//! the system took, what is gathered, and what was let go at its end. A flush that succeeds leaves
+//! nothing gathered.
+//!
+//! By the calls of `Arrivals`, `Sessions`, `LogSink` and `ReplyHalf`, `new_seats`, `new_posts`.
+//!
+//! # Tested
+//!
+//! What the rows of `worker_tests`, `scripts/maintain/try-requests` and
+//! `scripts/maintain/try-clients` try.
+//!
+//! # Open
+//!
+//! - That `send` hands on the bytes that it notes.
+//! - What comes over a socket, and when a session rests.
+//! - Proved safe, and no more: who is ready, whose turn it is, the stop, which sockets linger, what
+//!   an error of `accept` comes to, a log line.
 #![tactic(auto)]
 
 mod accept_fault;
