@@ -1,5 +1,6 @@
 pub mod Picking
 pub mod PlainFields
+pub mod PlainParts
 pub mod PlainRequests
 pub mod ValueAndDetails
 pub mod KeptContents

@@ -15,7 +15,8 @@ use Rattle.riak_msgs.specs.PlainFields.{BeginsPlainly, BeginsWithContext, Begins
 use Rattle.riak_msgs.specs.PlainDeletes.{plain_del}
 use Rattle.riak_msgs.specs.PlainPuts.{ArePlainFlags, IsPlainPutOf, plainly_asked}
 use Rattle.riak_msgs.proofs.EncodedRequests.{request_says}
-use Rattle.riak_msgs.proofs.PlainFields.{FindsContext, FindsFlag, context_counted, context_next, flag_counted, flag_next, is_nil, names_counted, names_once, not_first-flag, not_first-nil, not_first-plain, plain_counted, plain_once}
+use Rattle.riak_msgs.proofs.PlainFields.{plain_once}
+use Rattle.riak_msgs.proofs.PlainParts.{FindsContext, FindsFlag, context_counted, context_next, flag_counted, flag_next, is_nil, names_counted, names_once, not_first-flag, not_first-nil, not_first-plain, plain_counted}
 
 -- names that have bytes are those of a key of the default type
 named : (bucket key : List ℕ) → 1 ≤ length bucket → 1 ≤ length key → IsNamed (default_key bucket key)

@@ -1,5 +1,6 @@
 use Rattle.std.proofs.Common.{sym, ◌∙◌}
-use Rattle.riak_msgs.proofs.PlainFields.{details_are, details_end, empty_is, no_bytes}
+use Rattle.riak_msgs.proofs.PlainFields.{empty_is, no_bytes}
+use Rattle.riak_msgs.proofs.PlainParts.{details_are, details_end}
 use Rattle.riak_msgs.proofs.plain_fields.are_details.Goals as goal
 
 pub returns : goal.returns

@@ -1,5 +1,5 @@
 use Rattle.std.proofs.Common.{Some}
-use Rattle.riak_msgs.proofs.PlainFields.{context_found}
+use Rattle.riak_msgs.proofs.PlainParts.{context_found}
 use Rattle.riak_msgs.proofs.plain_fields.behind_optional.Goals as goal
 
 pub returns-in-Some-clause-begins : goal.returns-in-Some-clause-begins

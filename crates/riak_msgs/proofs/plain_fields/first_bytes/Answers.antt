@@ -1,7 +1,8 @@
 use Rattle.std.proofs.Common.{◌≡◌, ℕ, ◌<◌, ◌+◌, ◌*◌, List, ◌∷◌, ◌++◌, length, take, drop, sym, ap, ◌∙◌}
 use Rattle.std.proofs.lemmas.List.{take-append-drop}
 use Rattle.riak_msgs.specs.PlainFields.{BeginsPlainly, BeginsWithLen}
-use Rattle.riak_msgs.proofs.PlainFields.{begins_plainly, plain_field, no_plain-nil, no_plain-key, no_plain-len, no_plain-short}
+use Rattle.riak_msgs.proofs.PlainFields.{begins_plainly, no_plain-nil, no_plain-key, no_plain-len, no_plain-short}
+use Rattle.riak_msgs.proofs.PlainParts.{plain_field}
 use Rattle.riak_msgs.proofs.plain_fields.first_bytes.Goals as goal
 
 pub returns-in_default-clause-none : goal.returns-in_default-clause-none

@@ -1,4 +1,5 @@
-use Rattle.riak_msgs.proofs.PlainFields.{begins_with_context, context_empty, context_found, no_bytes, some_bytes}
+use Rattle.riak_msgs.proofs.PlainFields.{no_bytes, some_bytes}
+use Rattle.riak_msgs.proofs.PlainParts.{begins_with_context, context_empty, context_found}
 use Rattle.riak_msgs.proofs.plain_fields.first_context.Goals as goal
 
 pub returns-in_default-clause-found : goal.returns-in_default-clause-found

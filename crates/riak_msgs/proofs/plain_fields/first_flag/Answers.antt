@@ -1,4 +1,4 @@
-use Rattle.riak_msgs.proofs.PlainFields.{begins_with_true, no_true-key, no_true-nil, no_true-short, no_true-value}
+use Rattle.riak_msgs.proofs.PlainParts.{begins_with_true, no_true-key, no_true-nil, no_true-short, no_true-value}
 use Rattle.riak_msgs.proofs.plain_fields.first_flag.Goals as goal
 
 pub returns-in_default-clause-found : goal.returns-in_default-clause-found

@@ -1,4 +1,5 @@
-use Rattle.riak_msgs.proofs.PlainFields.{no_bytes, no_details, no_truth, plain_details}
+use Rattle.riak_msgs.proofs.PlainFields.{no_bytes}
+use Rattle.riak_msgs.proofs.PlainParts.{no_details, no_truth, plain_details}
 use Rattle.riak_msgs.proofs.plain_fields.is_plain_content.Goals as goal
 
 pub returns-in_default : goal.returns-in_default

@@ -3,7 +3,7 @@ use Rattle.riak_msgs.specs.declared.put.PutAsk.{PutAsk}
 use Rattle.riak_msgs.specs.declared.request.Request.TheVariants.{Put}
 use Rattle.riak_msgs.specs.Reading.{Decodes}
 use Rattle.riak_msgs.specs.PlainPuts.{plainly_asked}
-use Rattle.riak_msgs.proofs.PlainFields.{content_of_plain}
+use Rattle.riak_msgs.proofs.PlainParts.{content_of_plain}
 use Rattle.riak_msgs.proofs.PlainRequests.{says_plain_put}
 use Rattle.riak_msgs.proofs.Requests.{reads_no_memory}
 use Rattle.riak_msgs.proofs.read_put.read_put.Goals as goal

@@ -1,5 +1,5 @@
 use Rattle.std.proofs.Common.{refl}
-use Rattle.riak_msgs.proofs.PlainFields.{no_truth}
+use Rattle.riak_msgs.proofs.PlainParts.{no_truth}
 use Rattle.riak_msgs.proofs.PlainRequests.{no_put-content, no_put-flags, put_content}
 use Rattle.riak_msgs.proofs.plain_put.PlainPut.of.Goals as goal
 
