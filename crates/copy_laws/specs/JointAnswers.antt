@@ -99,7 +99,7 @@ module _ (partition : Partition) where
   abbrev pub del_event_at : Log → DelCommand Context → Event Content Context
   del_event_at log del = update_at log del.key del.context Tombstone
 
-  -- the first of a put's checks that holds
+  -- the first of a put's checks that holds; the siblings that may stay, 63, are those of all sides
   abbrev pub put_refusal_at : Log → PutCommand Content Context → Option ℕ
   put_refusal_at log put =
       first_of (

@@ -49,7 +49,7 @@ names_fault fields = first_fault (
     ∷ (has_empty_name 13 fields, faults.EmptyName)
     ∷ [])
 
--- RpbGetReq
+-- what the fields of an RpbGetReq ask for: of each field the last of its number and wire type; all others are dropped
 abbrev pub get_of : List WireField → GetAsk
 get_of fields = record {
   key = named_key 13 fields;
@@ -58,7 +58,7 @@ get_of fields = record {
   deletedvclock = flag_of 9 fields;
 }
 
--- RpbDelReq
+-- what the fields of an RpbDelReq ask for, read so
 abbrev pub del_of : List WireField → DelAsk
 del_of fields = record { key = named_key 13 fields; context = bytes_or_none 4 fields }
 
@@ -80,6 +80,7 @@ put_fault put = first_fault (
     ∷ (is_none (last_bytes 2 put.own), faults.NoKey)
     ∷ [])
 
+-- what the fields of an RpbPutReq ask for, read so; the fields of its content are those of all occurrences, one after another
 abbrev pub put_of : PutFields → PutAsk
 put_of put = record {
   key = named_key 16 put.own;

@@ -30,7 +30,8 @@ reply_code (replies.Get r) = 10
 reply_code (replies.Put r) = 12
 reply_code replies.Del = 14
 
--- the body of a reply
+-- The one body of a reply: fields by rising number, repeated ones in their order, each varint in its shortest form. What is absent isn't
+-- written, and neither is a false.
 abbrev pub reply_body : Reply → List ℕ
 reply_body (replies.Error text) = error_body text
 reply_body replies.Ping = []

@@ -60,7 +60,8 @@ request_code (requests.Get g) = 9
 request_code (requests.Put p) = 11
 request_code (requests.Del d) = 13
 
--- the body of a request
+-- The one body of a request: fields by rising number, repeated ones in their order, each varint in its shortest form. What is absent
+-- isn't written, and neither is a false, nor the type `default`.
 abbrev pub request_body : Request → List ℕ
 request_body requests.Ping = []
 request_body (requests.Get g) = get_body g

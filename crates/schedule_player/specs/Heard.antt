@@ -93,7 +93,7 @@ heard_after start [] = nothing_heard start.workers
 heard_after start (step ∷ earlier) =
     after_line (length earlier + 1) step (returned (outcome (world_after start earlier) step)) (heard_after start earlier)
 
--- the last line of a run
+-- the last line of a run: whether the plain register answered as the schedule did, at which line not, or that it wasn't compared
 abbrev pub last_line : Start → List Step → List ℕ
 last_line start schedule = verdict_line (heard_after start schedule).compared.verdict
 

@@ -140,6 +140,7 @@ module _ {V : Type 0} where
   abbrev pub update_check : State V → Key → Option Context → List Dot → Option ℕ
   update_check state key given pairs = first_of ((is_bad_context state key given, bad_context) ∷ room_checks state key pairs)
 
+  -- the number of the first check of a put that holds, if one does
   abbrev pub put_check : State V → PutCommand V Context → Option ℕ
   put_check state put =
       first_of (
@@ -147,6 +148,7 @@ module _ {V : Type 0} where
       ∷ option_checks put.if_none_match put.if_not_modified (has_value state put.key) (matches_clock state put.key put.context)
       ++ room_checks state put.key (pairs_of put.context))
 
+  -- the number of the first check of a delete that holds, if one does
   abbrev pub del_check : State V → DelCommand Context → Option ℕ
   del_check state del = update_check state del.key del.context (del_pairs state del.key del.context)
 
