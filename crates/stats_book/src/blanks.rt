@@ -25,17 +25,7 @@ impl Blanks {
         ensures refusals { result.refusals.parts ≡ shares }
         ensures reaps { result.reaps.parts ≡ shares }
     {
-        Blanks::of(u64::from(shares))
-    }
-
-    /// Ledgers that are cut into so many shares.
-    pub fn of(parts: u64) -> Blanks
-        ensures gets { result.gets.parts ≡ parts }
-        ensures puts { result.puts.parts ≡ parts }
-        ensures deletes { result.deletes.parts ≡ parts }
-        ensures refusals { result.refusals.parts ≡ parts }
-        ensures reaps { result.reaps.parts ≡ parts }
-    {
+        let parts = u64::from(shares);
         Blanks {
             gets: Blank::new(parts),
             puts: Blank::new(parts),

@@ -5,6 +5,7 @@ ghost use Rattle.stats_book.specs.Counting.{ArePastFull, zeros};
 ghost use Rattle.stats_book.specs.Holdings.{AllAre};
 
 use crate::book::Book;
+use crate::counting::CountReplies;
 use crate::quantity::Quantity;
 use crate::share::Share;
 use crate::totals::Totals;
@@ -99,9 +100,13 @@ impl<'a, G: Ledger, P: Ledger, D: Ledger, E: Ledger, R: Ledger> ReplyCounter<'a,
             self.count(quantity, 1);
         }
     }
+}
 
-    /// Counts what was answered: the reply as its quantity, and each dead key that was forgotten then.
-    pub fn count_answer(&mut self, quantity: Option<Quantity>, reaps: u32)
+impl<'a, G: Ledger, P: Ledger, D: Ledger, E: Ledger, R: Ledger> CountReplies
+    for ReplyCounter<'a, G, P, D, E, R> {
+    ghost count = { λ c. c };
+
+    fn count_answer(&mut self, quantity: Option<Quantity>, reaps: u32)
         ensures { CountsAnswer quantity reaps self.old self.new }
     {
         self.count_reply(quantity);

@@ -100,42 +100,4 @@ impl<G: Ledger, P: Ledger, D: Ledger, E: Ledger, R: Ledger> Holding<G, P, D, E, 
         }
         all
     }
-
-    /// So many of the shares, where none has counted anything yet.
-    pub(crate) fn cut(&mut self, parts: u64) -> Holding<G, P, D, E, R>
-        requires shares { parts ≤ self.old.shares }
-        requires counted { self.old.counted ≡ zeros }
-        ensures cut { result.shares ≡ parts }
-        ensures none { result.counted ≡ zeros }
-        ensures shares { self.new.shares + parts ≡ self.old.shares }
-        ensures counted { self.new.counted ≡ zeros }
-    {
-        Holding {
-            gets: self.gets.split_off(parts, 0),
-            puts: self.puts.split_off(parts, 0),
-            deletes: self.deletes.split_off(parts, 0),
-            refusals: self.refusals.split_off(parts, 0),
-            reaps: self.reaps.split_off(parts, 0),
-        }
-    }
-
-    /// Takes shares more, with what they have counted.
-    pub(crate) fn join(&mut self, others: Holding<G, P, D, E, R>)
-        ensures shares { self.new.shares ≡ self.old.shares + others.shares }
-        ensures counted { self.new.counted ≡ both self.old.counted others.counted }
-        ensures apart { self.new.shares ≤ G.parts }
-    {
-        let Holding {
-            gets,
-            puts,
-            deletes,
-            refusals,
-            reaps,
-        } = others;
-        self.gets.merge(gets);
-        self.puts.merge(puts);
-        self.deletes.merge(deletes);
-        self.refusals.merge(refusals);
-        self.reaps.merge(reaps);
-    }
 }

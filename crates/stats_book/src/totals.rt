@@ -1,6 +1,6 @@
 //! The five numbers.
-ghost use Rattle.std.specs.Prelude.{◌≡◌, ◌+◌, ◌≤◌, ◌^◌, MatchBool};
-ghost use Rattle.stats_book.specs.Counting.{IsFull, raised, zeros};
+ghost use Rattle.std.specs.Prelude.{◌≡◌, ◌+◌, ◌≤◌, ◌^◌, ◌↔◌, IfNone, IfSome, MatchBool, false};
+ghost use Rattle.stats_book.specs.Counting.{ArePastFull, IsFull, both, raised, zeros};
 
 use crate::quantity::Quantity;
 
@@ -35,7 +35,7 @@ fn raise(number: &mut u64, amount: u64) -> bool
 
 impl Totals {
     /// Nothing was counted.
-    pub(crate) fn zeros() -> Totals
+    pub fn zeros() -> Totals
         ensures { result ≡ zeros }
     {
         Totals {
@@ -59,5 +59,31 @@ impl Totals {
             Quantity::Refusals => raise(&mut self.refusals, amount),
             Quantity::Reaps => raise(&mut self.reaps, amount),
         }
+    }
+
+    /// Both together. None where some number would pass the last one.
+    fn checked_add(&self, more: &Totals) -> Option<Totals>
+        ensures sum { IfSome result (λ sum. sum ≡ both self.now more.now) }
+        ensures past { IfNone result (ArePastFull self.now more.now) }
+    {
+        Some(Totals {
+            gets: self.gets.checked_add(more.gets)?,
+            puts: self.puts.checked_add(more.puts)?,
+            deletes: self.deletes.checked_add(more.deletes)?,
+            refusals: self.refusals.checked_add(more.refusals)?,
+            reaps: self.reaps.checked_add(more.reaps)?,
+        })
+    }
+
+    /// Raises each number by its own of the others. False just where one would pass 18,446,744,073,709,551,615; all stay then.
+    pub fn add(&mut self, more: &Totals) -> bool
+        ensures added { MatchBool result (self.new ≡ both self.old more.now) (self.new ≡ self.old) }
+        ensures full { (result ≡ false) ↔ ArePastFull self.old more.now }
+    {
+        let Some(sum) = self.checked_add(more) else {
+            return false;
+        };
+        *self = sum;
+        true
     }
 }

@@ -1,0 +1,77 @@
+//! What one session counts by itself.
+ghost use Rattle.std.specs.Prelude.{◌≡◌, false};
+ghost use Rattle.stats_book.specs.Counter.{Counts, CountsReply, CountsAnswer};
+ghost use Rattle.stats_book.specs.Counting.{zeros};
+
+use crate::counting::CountReplies;
+use crate::quantity::Quantity;
+use crate::totals::Totals;
+use std::marker::Model;
+
+/// What one session counts by itself, with no book, and whether there was no room for some of what was to be counted.
+/// It takes no lock and no memory.
+///
+/// A number that would pass 18,446,744,073,709,551,615 stays, and the count remembers that.
+#[derive(Drop)]
+pub struct SessionCount {
+    counted: Totals,
+    is_full: bool,
+}
+
+impl Model for SessionCount {
+    ghost use Rattle.stats_book.specs.Counter.{Count};
+
+    ghost Value = { Count };
+
+    ghost view = { λ c. record { counted = c.counted; book_full = c.is_full } };
+}
+
+impl SessionCount {
+    /// Nothing was counted, and there was room so far.
+    pub fn new() -> SessionCount
+        ensures { result ≡ record { counted = zeros; book_full = false } }
+    {
+        SessionCount {
+            counted: Totals::zeros(),
+            is_full: false,
+        }
+    }
+
+    /// What was counted, and whether there was no room for some of what was to be counted.
+    pub fn into_parts(self) -> (Totals, bool)
+        ensures counted { result.0 ≡ self.counted }
+        ensures full { result.1 ≡ self.book_full }
+    {
+        let SessionCount { counted, is_full } = self;
+        (counted, is_full)
+    }
+
+    /// Counts so many of a quantity; where its number would pass the last one, none rises and that is kept.
+    fn count(&mut self, quantity: Quantity, amount: u64)
+        ensures { Counts quantity amount self.old self.new }
+    {
+        if !self.counted.raise(quantity, amount) {
+            self.is_full = true;
+        }
+    }
+
+    /// Counts a reply as its quantity, where it has one.
+    fn count_reply(&mut self, quantity: Option<Quantity>)
+        ensures { CountsReply quantity self.old self.new }
+    {
+        if let Some(quantity) = quantity {
+            self.count(quantity, 1);
+        }
+    }
+}
+
+impl CountReplies for SessionCount {
+    ghost count = { λ c. c };
+
+    fn count_answer(&mut self, quantity: Option<Quantity>, reaps: u32)
+        ensures { CountsAnswer quantity reaps self.old self.new }
+    {
+        self.count_reply(quantity);
+        self.count(Quantity::Reaps, u64::from(reaps));
+    }
+}
