@@ -14,21 +14,11 @@ use crate::passes::make_places;
 use crate::turnstile::Turnstile;
 use handoff::Fallback;
 use riak_msgs::{GetAsk, Text};
-use stats_book::Quantity;
+use stats_book::{CountReplies, Quantity};
 use std::alloc::Global;
 use std::sync::Wait;
-use std::sync::ledger::Ledger;
 
-impl<'a, W: Wait, T: Turnstile, G: Ledger, P: Ledger, D: Ledger, E: Ledger, R: Ledger> GateNode<
-    'a,
-    W,
-    T,
-    G,
-    P,
-    D,
-    E,
-    R,
-> {
+impl<'a, W: Wait, T: Turnstile, C: CountReplies> GateNode<'a, W, T, C> {
     /// Answers a get at the primary of a partition.
     #[inline(always)]
     fn get_at_primary<A: GetAnswer>(

@@ -7,19 +7,10 @@ use crate::partition_cache::PartitionCache;
 use crate::reserve::{Reserve, ReserveOf};
 use crate::turnstile::Turnstile;
 use riak_msgs::Key;
+use stats_book::CountReplies;
 use std::sync::Wait;
-use std::sync::ledger::Ledger;
 
-impl<'a, W: Wait, T: Turnstile, G: Ledger, P: Ledger, D: Ledger, E: Ledger, R: Ledger> GateNode<
-    'a,
-    W,
-    T,
-    G,
-    P,
-    D,
-    E,
-    R,
-> {
+impl<'a, W: Wait, T: Turnstile, C: CountReplies> GateNode<'a, W, T, C> {
     /// This node with memory kept back for what doesn't make its vnodes grow. It takes no memory.
     pub fn with_reserve(mut self, reserve: &'a Reserve<'a>) -> Self
         ensures { result ≡ self.entry }

@@ -20,7 +20,7 @@ use crate::turnstile::Turnstile;
 use handoff::Fallback;
 use riak_msgs::{Reply, Text};
 use rw_gate::Pass;
-use stats_book::{Book, Quantity, ReplyCounter, Share};
+use stats_book::{Book, CountReplies, Quantity, ReplyCounter, Share};
 use std::alloc::Global;
 use std::marker::Model;
 use std::sync::Wait;
@@ -39,20 +39,11 @@ use vnode_core::{Ask, Vnode};
 /// In a partition that is diverted all of this is so at its fallback, whose history is its own, and no dead key is forgotten there; the
 /// primary is not asked. Where the fallback is closed, all of this is so at the primary, at a position behind as many events as the close
 /// says, or else the answer is `moved`. A node that has seen the close asks the fallback no more.
-pub struct GateNode<
-    'a,
-    W: Wait,
-    T: Turnstile,
-    G: Ledger,
-    P: Ledger,
-    D: Ledger,
-    E: Ledger,
-    R: Ledger,
-> {
+pub struct GateNode<'a, W: Wait, T: Turnstile, C: CountReplies> {
     pub(crate) rt: &'a W,
     pub(crate) shared: &'a Shared,
     pub(crate) turnstile: &'a T,
-    pub(crate) counter: ReplyCounter<'a, G, P, D, E, R>,
+    pub(crate) counter: C,
     pub(crate) primaries: Vec<Pass<Vnode>>,
     /// How many partitions there are.
     pub(crate) size: usize,
@@ -65,8 +56,7 @@ pub struct GateNode<
 }
 
 /// One call at each place where one is let go.
-impl<'a, W: Wait, T: Turnstile, G: Ledger, P: Ledger, D: Ledger, E: Ledger, R: Ledger> Drop
-    for GateNode<'a, W, T, G, P, D, E, R> {
+impl<'a, W: Wait, T: Turnstile, C: CountReplies + Drop> Drop for GateNode<'a, W, T, C> {
     fn drop(self) {
         let GateNode {
             rt: _rt,
@@ -82,8 +72,7 @@ impl<'a, W: Wait, T: Turnstile, G: Ledger, P: Ledger, D: Ledger, E: Ledger, R: L
     }
 }
 
-impl<'a, W: Wait, T: Turnstile, G: Ledger, P: Ledger, D: Ledger, E: Ledger, R: Ledger> Model
-    for GateNode<'a, W, T, G, P, D, E, R> {
+impl<'a, W: Wait, T: Turnstile, C: CountReplies> Model for GateNode<'a, W, T, C> {
     ghost use Rattle.gate_node.specs.GateStep.{NodeOverGates};
     ghost use Rattle.gate_node.specs.Passes.{ArePassesOf, places_of};
 
@@ -91,11 +80,8 @@ impl<'a, W: Wait, T: Turnstile, G: Ledger, P: Ledger, D: Ledger, E: Ledger, R: L
 
     ghost view = { λ n. record {
       shared = n.shared.now;
-      passes = record {
-        primaries = n.primaries.items;
-        fallbacks = places_of n.size n.fallbacks.items;
-      };
-      count = n.counter;
+      passes = record { primaries = n.primaries.items; fallbacks = places_of n.size n.fallbacks.items };
+      count = C.count n.counter;
     } };
 
     ghost invariant = { λ n. ArePassesOf n.shared.now (record {
@@ -104,16 +90,9 @@ impl<'a, W: Wait, T: Turnstile, G: Ledger, P: Ledger, D: Ledger, E: Ledger, R: L
     }) };
 }
 
-impl<'a, W: Wait, T: Turnstile, G: Ledger, P: Ledger, D: Ledger, E: Ledger, R: Ledger> GateNode<
-    'a,
-    W,
-    T,
-    G,
-    P,
-    D,
-    E,
-    R,
-> {
+impl<'a, W: Wait, T: Turnstile, G: Ledger, P: Ledger, D: Ledger, E: Ledger, R: Ledger>
+    GateNode<'a, W, T, ReplyCounter<'a, G, P, D, E, R>>
+{
     /// A node over these gates by these passes of them, which counts by this share of the book. Each of its calls passes
     /// the turnstile. It takes no memory.
     pub fn new(
@@ -123,29 +102,13 @@ impl<'a, W: Wait, T: Turnstile, G: Ledger, P: Ledger, D: Ledger, E: Ledger, R: L
         share: Share<G, P, D, E, R>,
         passes: Passes,
         turnstile: &'a T,
-    ) -> GateNode<'a, W, T, G, P, D, E, R>
+    ) -> GateNode<'a, W, T, ReplyCounter<'a, G, P, D, E, R>>
         requires { ArePassesOf shared.now passes }
         ensures shared { result.shared ≡ shared.now }
         ensures passes { result.passes ≡ passes }
         ensures count { result.count ≡ record { counted = share; book_full = false } }
     {
-        let Passes {
-            primaries,
-            size,
-            fallbacks,
-        } = passes;
-        let counter = ReplyCounter::new(book, share);
-        GateNode {
-            rt,
-            shared,
-            turnstile,
-            counter,
-            primaries,
-            size,
-            fallbacks,
-            reserve: ReserveOf::none(),
-            partitions: None,
-        }
+        GateNode::counting_by(rt, shared, ReplyCounter::new(book, share), passes, turnstile)
     }
 
     /// The share, with all that was counted, and the passes, for later nodes over the same book and the same gates; and whether there was no room
@@ -160,8 +123,54 @@ impl<'a, W: Wait, T: Turnstile, G: Ledger, P: Ledger, D: Ledger, E: Ledger, R: L
         ensures sole { AllAre 1 G.parts P.parts D.parts E.parts R.parts → result.2 ≡ true
             → (self.entry.count.book_full ≡ true) ⊎ ArePastFull zeros self.entry.count.counted }
     {
-        let GateNode {
+        let rt = self.rt;
+        let (counter, passes) = self.into_counter();
+        let (share, is_book_full) = counter.parts(rt);
+        (share, passes, is_book_full)
+    }
+}
+
+impl<'a, W: Wait, T: Turnstile, C: CountReplies> GateNode<'a, W, T, C> {
+    /// A node over these gates by these passes of them, which counts by this counter. Each of its calls passes the
+    /// turnstile. It takes no memory.
+    pub fn counting_by(
+        rt: &'a W,
+        shared: &'a Shared,
+        counter: C,
+        passes: Passes,
+        turnstile: &'a T,
+    ) -> GateNode<'a, W, T, C>
+        requires { ArePassesOf shared.now passes }
+        ensures shared { result.shared ≡ shared.now }
+        ensures passes { result.passes ≡ passes }
+        ensures count { result.count ≡ C.count counter }
+    {
+        let Passes {
+            primaries,
+            size,
+            fallbacks,
+        } = passes;
+        GateNode {
             rt,
+            shared,
+            turnstile,
+            counter,
+            primaries,
+            size,
+            fallbacks,
+            reserve: ReserveOf::none(),
+            partitions: None,
+        }
+    }
+
+    /// The counter, with all that was counted, and the passes, for later nodes over the same gates. It takes no memory.
+    pub fn into_counter(self) -> (C, Passes)
+        ensures count { C.count result.0 ≡ self.entry.count }
+        ensures passes { result.1 ≡ self.entry.passes }
+        ensures gates { ArePassesOf self.entry.shared result.1 }
+    {
+        let GateNode {
+            rt: _,
             shared: _,
             turnstile: _,
             counter,
@@ -171,13 +180,12 @@ impl<'a, W: Wait, T: Turnstile, G: Ledger, P: Ledger, D: Ledger, E: Ledger, R: L
             reserve: _,
             partitions: _,
         } = self;
-        let (share, is_book_full) = counter.parts(rt);
         let passes = Passes {
             primaries,
             size,
             fallbacks,
         };
-        (share, passes, is_book_full)
+        (counter, passes)
     }
 
     /// Answers what may change a vnode at the primary of a partition.

@@ -8,9 +8,9 @@ use crate::reserve::ReserveOf;
 use crate::turnstile::Turnstile;
 use node_session::{FramedReply, Node, ReplyFrame, Scratch, put_reply};
 use riak_msgs::{Reply, Request};
+use stats_book::CountReplies;
 use std::alloc::Global;
 use std::sync::Wait;
-use std::sync::ledger::Ledger;
 use vnode_core::Ask;
 
 /// Puts the frame of a reply, and lets it go: once more where memory was refused, and the thread gave up what it keeps back.
@@ -32,8 +32,7 @@ fn put_whole(
     framed
 }
 
-impl<'a, W: Wait, T: Turnstile, G: Ledger, P: Ledger, D: Ledger, E: Ledger, R: Ledger> Node
-    for GateNode<'a, W, T, G, P, D, E, R> {
+impl<'a, W: Wait, T: Turnstile, C: CountReplies> Node for GateNode<'a, W, T, C> {
     ghost use Rattle.gate_node.specs.GateStep.{GateNodeStep};
 
     ghost step = { GateNodeStep };

@@ -5,7 +5,7 @@ ghost use Rattle.stats_book.specs.Counting.{ArePastFull, zeros};
 ghost use Rattle.stats_book.specs.Holdings.{AllAre};
 
 use crate::book::Book;
-use crate::counting::CountReplies;
+use crate::count_replies::CountReplies;
 use crate::quantity::Quantity;
 use crate::share::Share;
 use crate::totals::Totals;

@@ -49,8 +49,8 @@
 mod blanks;
 mod book;
 mod count;
+mod count_replies;
 mod counter;
-mod counting;
 mod fault;
 mod holding;
 mod quantity;
@@ -61,8 +61,8 @@ mod totals;
 
 pub use blanks::Blanks;
 pub use book::{Book, Opened, close};
+pub use count_replies::CountReplies;
 pub use counter::ReplyCounter;
-pub use counting::CountReplies;
 pub use fault::BookFault;
 pub use quantity::Quantity;
 pub use session_count::SessionCount;

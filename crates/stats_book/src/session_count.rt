@@ -3,7 +3,7 @@ ghost use Rattle.std.specs.Prelude.{◌≡◌, false};
 ghost use Rattle.stats_book.specs.Counter.{Counts, CountsReply, CountsAnswer};
 ghost use Rattle.stats_book.specs.Counting.{zeros};
 
-use crate::counting::CountReplies;
+use crate::count_replies::CountReplies;
 use crate::quantity::Quantity;
 use crate::totals::Totals;
 use std::marker::Model;

@@ -22,7 +22,7 @@ returns-clause-looks g c =
     let asked = subst (λ (n : NodeOverGates). c.args.index < 2 ^ n.shared.index_bits) (sym c.self.view_is) c.requires in
     let within = within_passes primaries shared.gates (2 ^ shared.index_bits) c.args.index c.self.invariant.primaries size asked in
     rw (← c.self.view_is)
-    (looks_at (node_of shared primaries (places_of c.self.inside.size c.self.inside.fallbacks.items) c.self.inside.counter) c.args.index c.index_mut-pass.result.now c.catch_up.new.pass within c.index_mut-pass.ensures.value c.catch_up.ensures.gate
+    (looks_at (node_of shared primaries (places_of c.self.inside.size c.self.inside.fallbacks.items) (g.C.CountReplies.count c.self.inside.counter)) c.args.index c.index_mut-pass.result.now c.catch_up.new.pass within c.index_mut-pass.ensures.value c.catch_up.ensures.gate
     c.catch_up.ensures.more c.catch_up.ensures.own)
 
 pub returns-clause-far : goal.returns-clause-far
@@ -34,4 +34,4 @@ returns-clause-far g c =
     let asked = subst (λ (n : NodeOverGates). c.args.index < 2 ^ n.shared.index_bits) (sym c.self.view_is) c.requires in
     let within = within_passes primaries shared.gates (2 ^ shared.index_bits) c.args.index c.self.invariant.primaries size asked in
     c.catch_up.ensures.far
-    ∙ ap (λ n. nat_le c.args.number n) (seen_there (node_of shared primaries (places_of c.self.inside.size c.self.inside.fallbacks.items) c.self.inside.counter) c.args.index c.index_mut-pass.result.now c.catch_up.new.pass within c.index_mut-pass.ensures.value)
+    ∙ ap (λ n. nat_le c.args.number n) (seen_there (node_of shared primaries (places_of c.self.inside.size c.self.inside.fallbacks.items) (g.C.CountReplies.count c.self.inside.counter)) c.args.index c.index_mut-pass.result.now c.catch_up.new.pass within c.index_mut-pass.ensures.value)

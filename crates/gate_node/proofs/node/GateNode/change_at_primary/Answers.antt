@@ -23,6 +23,6 @@ returns g c =
     let asked = subst (λ (n : NodeOverGates). c.args.index < 2 ^ n.shared.index_bits) (sym c.self.view_is) c.requires in
     let within = within_passes primaries shared.gates (2 ^ shared.index_bits) c.args.index c.self.invariant.primaries size asked in
     rw (← c.self.view_is)
-    (at_index (record { shared = shared; passes = record { primaries = primaries; fallbacks = places_of c.self.inside.size c.self.inside.fallbacks.items }; count = c.self.inside.counter }) c.args.index c.index_mut-pass.result.now c.change_and_reap-answered.new.pass
-    (λ p q quantity. Changes c.args.change p q c.change_and_reap-answered.result.reply quantity) c.change_and_reap-answered.result.quantity c.change_and_reap-answered.result.reaps c.count_answer.new.self all c.self.invariant.primaries within c.index_mut-pass.ensures.value
+    (at_index (record { shared = shared; passes = record { primaries = primaries; fallbacks = places_of c.self.inside.size c.self.inside.fallbacks.items }; count = g.C.CountReplies.count c.self.inside.counter }) c.args.index c.index_mut-pass.result.now c.change_and_reap-answered.new.pass
+    (λ p q quantity. Changes c.args.change p q c.change_and_reap-answered.result.reply quantity) c.change_and_reap-answered.result.quantity c.change_and_reap-answered.result.reaps (g.C.CountReplies.count c.count_answer.new.self) all c.self.invariant.primaries within c.index_mut-pass.ensures.value
     c.change_and_reap-answered.ensures.gate c.change_and_reap-answered.ensures.steps c.count_answer.ensures)

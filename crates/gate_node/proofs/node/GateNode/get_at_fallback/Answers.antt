@@ -8,9 +8,9 @@ index_mut-kept-requires g c =
     let places = c.self.inside.fallbacks.items in
     let made = c.make_places.new.places.items in
     let all = c.make_places.ensures.made c.if-not-make_places.false in
-    let inside = node_of c.self.inside.shared.now c.self.inside.primaries.items made c.self.inside.counter in
-    let is = made_is c.self.inside.size c.self.inside.shared.now c.self.inside.primaries.items places made c.self.inside.counter c.make_places.ensures.same all c.args.self.now c.self.view_is in
-    let of = made_of c.self.inside.size c.self.inside.shared.now c.self.inside.primaries.items places made c.self.inside.counter c.make_places.ensures.same all c.self.invariant in
+    let inside = node_of c.self.inside.shared.now c.self.inside.primaries.items made (g.C.CountReplies.count c.self.inside.counter) in
+    let is = made_is c.self.inside.size c.self.inside.shared.now c.self.inside.primaries.items places made (g.C.CountReplies.count c.self.inside.counter) c.make_places.ensures.same all c.args.self.now c.self.view_is in
+    let of = made_of c.self.inside.size c.self.inside.shared.now c.self.inside.primaries.items places made (g.C.CountReplies.count c.self.inside.counter) c.make_places.ensures.same all c.self.invariant in
     let within : c.args.index < length made = kept_place inside c.args.self.now c.args.index c.args.fallback.now is of c.requires.diverted in
     search rules
 
@@ -19,9 +19,9 @@ get_diverted-requires-clause-fits g c =
     let places = c.self.inside.fallbacks.items in
     let made = c.make_places.new.places.items in
     let all = c.make_places.ensures.made c.if-not-make_places.false in
-    let inside = node_of c.self.inside.shared.now c.self.inside.primaries.items made c.self.inside.counter in
-    let is = made_is c.self.inside.size c.self.inside.shared.now c.self.inside.primaries.items places made c.self.inside.counter c.make_places.ensures.same all c.args.self.now c.self.view_is in
-    let of = made_of c.self.inside.size c.self.inside.shared.now c.self.inside.primaries.items places made c.self.inside.counter c.make_places.ensures.same all c.self.invariant in
+    let inside = node_of c.self.inside.shared.now c.self.inside.primaries.items made (g.C.CountReplies.count c.self.inside.counter) in
+    let is = made_is c.self.inside.size c.self.inside.shared.now c.self.inside.primaries.items places made (g.C.CountReplies.count c.self.inside.counter) c.make_places.ensures.same all c.args.self.now c.self.view_is in
+    let of = made_of c.self.inside.size c.self.inside.shared.now c.self.inside.primaries.items places made (g.C.CountReplies.count c.self.inside.counter) c.make_places.ensures.same all c.self.invariant in
     kept_fits inside c.args.self.now c.args.index c.args.fallback.now is of c.requires.diverted c.index_mut-kept.result.now c.index_mut-kept.ensures.value
 
 pub invariant_of-self-in-Ok : goal.invariant_of-self-in-Ok
@@ -29,9 +29,9 @@ invariant_of-self-in-Ok g c =
     let places = c.self.inside.fallbacks.items in
     let made = c.make_places.new.places.items in
     let all = c.make_places.ensures.made c.if-not-make_places.false in
-    let inside = node_of c.self.inside.shared.now c.self.inside.primaries.items made c.self.inside.counter in
-    let is = made_is c.self.inside.size c.self.inside.shared.now c.self.inside.primaries.items places made c.self.inside.counter c.make_places.ensures.same all c.args.self.now c.self.view_is in
-    let of = made_of c.self.inside.size c.self.inside.shared.now c.self.inside.primaries.items places made c.self.inside.counter c.make_places.ensures.same all c.self.invariant in
+    let inside = node_of c.self.inside.shared.now c.self.inside.primaries.items made (g.C.CountReplies.count c.self.inside.counter) in
+    let is = made_is c.self.inside.size c.self.inside.shared.now c.self.inside.primaries.items places made (g.C.CountReplies.count c.self.inside.counter) c.make_places.ensures.same all c.args.self.now c.self.view_is in
+    let of = made_of c.self.inside.size c.self.inside.shared.now c.self.inside.primaries.items places made (g.C.CountReplies.count c.self.inside.counter) c.make_places.ensures.same all c.self.invariant in
     let within = kept_place inside c.args.self.now c.args.index c.args.fallback.now is of c.requires.diverted in
     rw (places_set c.self.inside.size c.args.index made c.get_diverted.new.kept within)
     (still_answered inside c.args.self.now c.args.index c.args.fallback.now is of c.requires.diverted c.index_mut-kept.result.now c.index_mut-kept.ensures.value c.get_diverted.new.kept
@@ -42,9 +42,9 @@ invariant_of-self-in-Err g c =
     let places = c.self.inside.fallbacks.items in
     let made = c.make_places.new.places.items in
     let all = c.make_places.ensures.made c.if-not-make_places.false in
-    let inside = node_of c.self.inside.shared.now c.self.inside.primaries.items made c.self.inside.counter in
-    let is = made_is c.self.inside.size c.self.inside.shared.now c.self.inside.primaries.items places made c.self.inside.counter c.make_places.ensures.same all c.args.self.now c.self.view_is in
-    let of = made_of c.self.inside.size c.self.inside.shared.now c.self.inside.primaries.items places made c.self.inside.counter c.make_places.ensures.same all c.self.invariant in
+    let inside = node_of c.self.inside.shared.now c.self.inside.primaries.items made (g.C.CountReplies.count c.self.inside.counter) in
+    let is = made_is c.self.inside.size c.self.inside.shared.now c.self.inside.primaries.items places made (g.C.CountReplies.count c.self.inside.counter) c.make_places.ensures.same all c.args.self.now c.self.view_is in
+    let of = made_of c.self.inside.size c.self.inside.shared.now c.self.inside.primaries.items places made (g.C.CountReplies.count c.self.inside.counter) c.make_places.ensures.same all c.self.invariant in
     let within = kept_place inside c.args.self.now c.args.index c.args.fallback.now is of c.requires.diverted in
     rw (places_set c.self.inside.size c.args.index made c.get_diverted.new.kept within)
     (still_closed inside c.args.self.now c.args.index c.args.fallback.now is of c.requires.diverted c.index_mut-kept.result.now c.index_mut-kept.ensures.value c.get_diverted.new.kept
@@ -55,22 +55,22 @@ returns-in-Ok-clause-answers g c =
     let places = c.self.inside.fallbacks.items in
     let made = c.make_places.new.places.items in
     let all = c.make_places.ensures.made c.if-not-make_places.false in
-    let inside = node_of c.self.inside.shared.now c.self.inside.primaries.items made c.self.inside.counter in
-    let is = made_is c.self.inside.size c.self.inside.shared.now c.self.inside.primaries.items places made c.self.inside.counter c.make_places.ensures.same all c.args.self.now c.self.view_is in
-    let of = made_of c.self.inside.size c.self.inside.shared.now c.self.inside.primaries.items places made c.self.inside.counter c.make_places.ensures.same all c.self.invariant in
+    let inside = node_of c.self.inside.shared.now c.self.inside.primaries.items made (g.C.CountReplies.count c.self.inside.counter) in
+    let is = made_is c.self.inside.size c.self.inside.shared.now c.self.inside.primaries.items places made (g.C.CountReplies.count c.self.inside.counter) c.make_places.ensures.same all c.args.self.now c.self.view_is in
+    let of = made_of c.self.inside.size c.self.inside.shared.now c.self.inside.primaries.items places made (g.C.CountReplies.count c.self.inside.counter) c.make_places.ensures.same all c.self.invariant in
     let within = kept_place inside c.args.self.now c.args.index c.args.fallback.now is of c.requires.diverted in
     rw (places_set c.self.inside.size c.args.index made c.get_diverted.new.kept within)
     (inl (answered_there inside c.args.self.now c.args.index c.args.fallback.now is of c.requires.diverted c.index_mut-kept.result.now c.index_mut-kept.ensures.value c.get_diverted.new.kept
-    c.requires.new (λ p q quantity. GetsOpen c.args.get.now p q (g.A.GetAnswer.reply c.in-Ok.reply) quantity) c.in-Ok.quantity c.count_answer.new.self c.in-Ok.ensures.answers c.count_answer.ensures))
+    c.requires.new (λ p q quantity. GetsOpen c.args.get.now p q (g.A.GetAnswer.reply c.in-Ok.reply) quantity) c.in-Ok.quantity (g.C.CountReplies.count c.count_answer.new.self) c.in-Ok.ensures.answers c.count_answer.ensures))
 
 pub returns-in-Err-clause-closed : goal.returns-in-Err-clause-closed
 returns-in-Err-clause-closed g c =
     let places = c.self.inside.fallbacks.items in
     let made = c.make_places.new.places.items in
     let all = c.make_places.ensures.made c.if-not-make_places.false in
-    let inside = node_of c.self.inside.shared.now c.self.inside.primaries.items made c.self.inside.counter in
-    let is = made_is c.self.inside.size c.self.inside.shared.now c.self.inside.primaries.items places made c.self.inside.counter c.make_places.ensures.same all c.args.self.now c.self.view_is in
-    let of = made_of c.self.inside.size c.self.inside.shared.now c.self.inside.primaries.items places made c.self.inside.counter c.make_places.ensures.same all c.self.invariant in
+    let inside = node_of c.self.inside.shared.now c.self.inside.primaries.items made (g.C.CountReplies.count c.self.inside.counter) in
+    let is = made_is c.self.inside.size c.self.inside.shared.now c.self.inside.primaries.items places made (g.C.CountReplies.count c.self.inside.counter) c.make_places.ensures.same all c.args.self.now c.self.view_is in
+    let of = made_of c.self.inside.size c.self.inside.shared.now c.self.inside.primaries.items places made (g.C.CountReplies.count c.self.inside.counter) c.make_places.ensures.same all c.self.invariant in
     let within = kept_place inside c.args.self.now c.args.index c.args.fallback.now is of c.requires.diverted in
     rw (places_set c.self.inside.size c.args.index made c.get_diverted.new.kept within)
     (closed_there inside c.args.self.now c.args.index c.args.fallback.now is of c.requires.diverted c.index_mut-kept.result.now c.index_mut-kept.ensures.value c.get_diverted.new.kept
