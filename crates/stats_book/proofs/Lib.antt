@@ -1,1 +1,2 @@
+pub mod CountedBefore
 pub mod Raising

@@ -3,12 +3,16 @@ use Rattle.std.specs.Prelude.{◌≡◌, ◌⊎◌, ℕ, Bool, true, Option, Som
 use Rattle.stats_book.specs.declared.totals.Totals.{Totals}
 use Rattle.stats_book.specs.declared.quantity.Quantity.{Quantity}
 use Rattle.stats_book.specs.declared.quantity.Quantity.TheVariants.{Reaps}
-use Rattle.stats_book.specs.Counting.{IsFull, raised}
+use Rattle.stats_book.specs.Counting.{IsFull, both, raised}
 
 -- what was counted, and whether the book had no room for some of what was to be counted
 pub record Count : Type 0 where
   pub counted : Totals
   pub book_full : Bool
+
+-- the count, where so much was counted before it
+abbrev pub count_after : Totals → Count → Count
+count_after before c = record c { counted = both before c.counted }
 
 -- so many more of a quantity are counted; or they would pass the last number, and that is kept
 abbrev pub Counts : Quantity → ℕ → Count → Count → Type 0

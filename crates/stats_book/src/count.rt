@@ -103,7 +103,6 @@ impl<L: Ledger> Part<L> {
     pub(crate) fn merge_into(self, others: &mut ledger::Share<L>)
         ensures parts { others.new.parts ≡ others.old.parts + 1 }
         ensures amount { others.new.amount ≡ others.old.amount + self }
-        ensures apart { others.new.parts ≤ L.parts }
     {
         let Part { share } = self;
         others.merge(share);

@@ -1,14 +1,14 @@
 //! What one session counts, for its share of the book.
 ghost use Rattle.std.specs.Prelude.{◌≡◌, ◌⊎◌, false, true};
-ghost use Rattle.stats_book.specs.Counter.{Counts, CountsReply, CountsAnswer};
+ghost use Rattle.stats_book.specs.Counter.{CountsAnswer};
 ghost use Rattle.stats_book.specs.Counting.{ArePastFull, zeros};
 ghost use Rattle.stats_book.specs.Holdings.{AllAre};
 
 use crate::book::Book;
 use crate::count_replies::CountReplies;
 use crate::quantity::Quantity;
+use crate::session_count::SessionCount;
 use crate::share::Share;
-use crate::totals::Totals;
 use std::marker::Model;
 use std::sync::Wait;
 use std::sync::ledger::Ledger;
@@ -21,8 +21,7 @@ pub struct ReplyCounter<'a, G: Ledger, P: Ledger, D: Ledger, E: Ledger, R: Ledge
     book: &'a Book<G, P, D, E, R>,
     share: Share<G, P, D, E, R>,
     /// What was counted, and isn't in the share yet.
-    since: Totals,
-    is_book_full: bool,
+    since: SessionCount,
 }
 
 /// One call at each place where one is let go.
@@ -33,19 +32,17 @@ impl<'a, G: Ledger, P: Ledger, D: Ledger, E: Ledger, R: Ledger> Drop
             book: _book,
             share: _share,
             since: _since,
-            is_book_full: _is_book_full,
         } = self;
     }
 }
 
 impl<'a, G: Ledger, P: Ledger, D: Ledger, E: Ledger, R: Ledger> Model
     for ReplyCounter<'a, G, P, D, E, R> {
-    ghost use Rattle.stats_book.specs.Counter.{Count};
-    ghost use Rattle.stats_book.specs.Counting.{both};
+    ghost use Rattle.stats_book.specs.Counter.{Count, count_after};
 
     ghost Value = { Count };
 
-    ghost view = { λ c. record { counted = both c.share c.since; book_full = c.is_book_full } };
+    ghost view = { λ c. count_after c.share c.since };
 }
 
 impl<'a, G: Ledger, P: Ledger, D: Ledger, E: Ledger, R: Ledger> ReplyCounter<'a, G, P, D, E, R> {
@@ -59,8 +56,7 @@ impl<'a, G: Ledger, P: Ledger, D: Ledger, E: Ledger, R: Ledger> ReplyCounter<'a,
         ReplyCounter {
             book,
             share,
-            since: Totals::zeros(),
-            is_book_full: false,
+            since: SessionCount::new(),
         }
     }
 
@@ -77,28 +73,10 @@ impl<'a, G: Ledger, P: Ledger, D: Ledger, E: Ledger, R: Ledger> ReplyCounter<'a,
             book,
             mut share,
             since,
-            is_book_full,
         } = self;
-        let is_counted = share.add_all(rt, book, &since).is_ok();
+        let (counted, is_book_full) = since.into_parts();
+        let is_counted = share.add_all(rt, book, &counted).is_ok();
         (share, is_book_full || !is_counted)
-    }
-
-    /// Counts so many of a quantity; where its number would pass the last one, none rises and that is kept.
-    pub fn count(&mut self, quantity: Quantity, amount: u64)
-        ensures { Counts quantity amount self.old self.new }
-    {
-        if !self.since.raise(quantity, amount) {
-            self.is_book_full = true;
-        }
-    }
-
-    /// Counts a reply as its quantity, where it has one.
-    fn count_reply(&mut self, quantity: Option<Quantity>)
-        ensures { CountsReply quantity self.old self.new }
-    {
-        if let Some(quantity) = quantity {
-            self.count(quantity, 1);
-        }
     }
 }
 
@@ -109,7 +87,6 @@ impl<'a, G: Ledger, P: Ledger, D: Ledger, E: Ledger, R: Ledger> CountReplies
     fn count_answer(&mut self, quantity: Option<Quantity>, reaps: u32)
         ensures { CountsAnswer quantity reaps self.old self.new }
     {
-        self.count_reply(quantity);
-        self.count(Quantity::Reaps, u64::from(reaps));
+        self.since.count_answer(quantity, reaps);
     }
 }

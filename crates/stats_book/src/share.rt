@@ -1,5 +1,5 @@
 //! A worker's share of a book.
-ghost use Rattle.std.specs.Prelude.{◌≡◌, ◌+◌, ◌≤◌, IfErr, IfOk, IsErrOf, IsOkUnless, MatchResult};
+ghost use Rattle.std.specs.Prelude.{◌≡◌, ◌+◌, IfErr, IfOk, IsErrOf, IsOkUnless, MatchResult};
 ghost use Rattle.stats_book.specs.Counting.{ArePastFull, IsFull, both, raised};
 ghost use Rattle.stats_book.specs.Holdings.{AllAre};
 
@@ -93,7 +93,6 @@ impl<G: Ledger, P: Ledger, D: Ledger, E: Ledger, R: Ledger> Share<G, P, D, E, R>
     pub(crate) fn merge_into(self, others: &mut Holding<G, P, D, E, R>)
         ensures shares { others.new.shares ≡ others.old.shares + 1 }
         ensures counted { others.new.counted ≡ both others.old.counted self }
-        ensures apart { others.new.shares ≤ G.parts }
     {
         let Share {
             gets,
