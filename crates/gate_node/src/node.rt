@@ -28,13 +28,14 @@ use std::sync::ledger::Ledger;
 use vnode_core::{Ask, Vnode};
 
 /// A node over the gates of a run, for one thread beside others that have nodes over the same gates. It waits by the
-/// runtime `W` where another thread has the vnode that a request is for. Its ledgers are those of the book.
+/// runtime `W` where another thread has the vnode that a request is for. It counts its replies by `C`: by a share of a
+/// book ([`new`](GateNode::new)), or by any other counter ([`counting_by`](GateNode::counting_by)).
 ///
 /// Contracts see what its passes have seen and published, and what it has counted. Each reply but an error for want of
 /// memory, `moved` or `history full` is the vnode machine's at one position of the vnode's history, not before what this
 /// node had seen of it; `moved` and `history full` change nothing. A get that was answered, a put that was accepted, a
-/// delete that wrote a tombstone, an error, and each dead key that was forgotten add one to what it has counted, which comes
-/// into the share and the book when the node is taken apart; where there is no room, the reply is the same, and the node keeps that fact.
+/// delete that wrote a tombstone, an error, and each dead key that was forgotten add one to what it has counted, which the
+/// counter has when the node is taken apart; where there is no room, the reply is the same, and the node keeps that fact.
 ///
 /// In a partition that is diverted all of this is so at its fallback, whose history is its own, and no dead key is forgotten there; the
 /// primary is not asked. Where the fallback is closed, all of this is so at the primary, at a position behind as many events as the close
