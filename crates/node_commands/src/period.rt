@@ -9,7 +9,7 @@ ghost use Rattle.handoff_tracks.specs.Tracks.{HaveTracks};
 use crate::console::Console;
 use crate::fault::{ServeFault, setup_fault};
 use crate::hearing::{Hearing, KnowsTracks, hear};
-use crate::progress::{Paused, Progress, both};
+use crate::progress::{Paused, Progress};
 use crate::serving::serve_fault;
 use crate::until::UntilSettings;
 use gate_node::{Open, Passes, Shared};
@@ -67,8 +67,11 @@ fn lay_down<T>(
         sinks: _sinks,
         resting,
     } = served;
-    let (Some(totals), Some(connections), Some(closed)) = (
-        both(before.totals, totals),
+    let mut sum = before.totals;
+    if !sum.add(&totals) {
+        return Err(ServeFault::BookFull);
+    }
+    let (Some(connections), Some(closed)) = (
         before.connections.checked_add(connections),
         before.closed.checked_add(closed),
     ) else {
@@ -77,7 +80,7 @@ fn lay_down<T>(
     Ok(Progress {
         rested: resting,
         seen,
-        totals,
+        totals: sum,
         connections,
         closed,
     })

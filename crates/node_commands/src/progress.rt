@@ -4,7 +4,6 @@ ghost use Rattle.std.specs.Prelude.{◌≡◌, ◌<◌, ◌^◌, IfErr, IfSome, 
 ghost use Rattle.handoff.specs.Partitions.{IsDivertRefused};
 ghost use Rattle.gate_node.specs.Gates.{handoff_of};
 ghost use Rattle.session_pool.specs.Resuming.{IsOnceDiverted};
-ghost use Rattle.stats_book.specs.Counting.{both, zeros};
 ghost use Rattle.node_commands.specs.Periods.{IsNew};
 
 use gate_node::{Passes, Shared};
@@ -35,32 +34,6 @@ pub struct Paused {
     pub progress: Progress,
 }
 
-/// Both counts together. None where a number would pass 18,446,744,073,709,551,615.
-pub(crate) fn both(first: Totals, more: Totals) -> Option<Totals>
-    ensures { IfSome result (λ sums. sums ≡ both first more) }
-{
-    Some(Totals {
-        gets: first.gets.checked_add(more.gets)?,
-        puts: first.puts.checked_add(more.puts)?,
-        deletes: first.deletes.checked_add(more.deletes)?,
-        refusals: first.refusals.checked_add(more.refusals)?,
-        reaps: first.reaps.checked_add(more.reaps)?,
-    })
-}
-
-/// Nothing was counted.
-fn zeros() -> Totals
-    ensures { result ≡ zeros }
-{
-    Totals {
-        gets: 0,
-        puts: 0,
-        deletes: 0,
-        refusals: 0,
-        reaps: 0,
-    }
-}
-
 impl Progress {
     /// No session has begun, over these gates. None where memory is refused.
     fn new(alloc: Global, shared: &Shared) -> Option<Progress>
@@ -70,7 +43,7 @@ impl Progress {
         Some(Progress {
             rested: Vec::new(alloc),
             seen,
-            totals: zeros(),
+            totals: Totals::zeros(),
             connections: 0,
             closed: 0,
         })

@@ -6,7 +6,9 @@ use Rattle.job_pool.specs.Lists.{Every, Pairwise, concat}
 use Rattle.job_pool.specs.Turns.{ServedTurn, WorkerTurns, TurnChain, IsChain, firsts_of, lasts_of}
 use Rattle.job_pool.specs.Ends.{IsTurnOfGiven, IsTold, told_by, weight_told}
 use Rattle.job_pool.specs.declared.worker.NumberedEnd.{NumberedEnd}
-use Rattle.stats_book.specs.Counting.{both, sum_of, zeros}
+use Rattle.stats_book.specs.Counting.{both, number_of, sum_of, zeros}
+use Rattle.stats_book.specs.declared.quantity.Quantity.{Quantity}
+use Rattle.stats_book.specs.declared.quantity.Quantity.TheVariants.{Gets, Puts, Deletes, Refusals, Reaps}
 use Rattle.stats_book.specs.declared.totals.Totals.{Totals}
 use Rattle.gate_node.specs.Gates.{Gates}
 use Rattle.gate_node.specs.Passes.{Sights}
@@ -23,7 +25,7 @@ use Rattle.session_pool.specs.Tellers.{TellerView, IsCovered, HaveSeenLeft, Have
 use Rattle.session_pool.specs.Telling.{ToldSession, RestedSession, IsToldSession, IsRestedSession, told_of, count_told, now_of, count_rested, weight_rested, with_passes}
 use Rattle.session_pool.proofs.Tellers.{all_through}
 
-both_assoc : (a b c : Totals) → both (both a b) c ≡ both a (both b c)
+pub both_assoc : (a b c : Totals) → both (both a b) c ≡ both a (both b c)
 both_assoc a b c =
     let gets : (a.gets + b.gets) + c.gets ≡ a.gets + (b.gets + c.gets) = omega arith in
     let puts : (a.puts + b.puts) + c.puts ≡ a.puts + (b.puts + c.puts) = omega arith in
@@ -41,7 +43,7 @@ both_swap a b =
     let reaps : a.reaps + b.reaps ≡ b.reaps + a.reaps = omega arith in
     λ i. record { gets = gets i; puts = puts i; deletes = deletes i; refusals = refusals i; reaps = reaps i }
 
-none_both : (a : Totals) → both zeros a ≡ a
+pub none_both : (a : Totals) → both zeros a ≡ a
 none_both a =
     let gets : 0 + a.gets ≡ a.gets = omega arith in
     let puts : 0 + a.puts ≡ a.puts = omega arith in
@@ -50,7 +52,7 @@ none_both a =
     let reaps : 0 + a.reaps ≡ a.reaps = omega arith in
     λ i. record { gets = gets i; puts = puts i; deletes = deletes i; refusals = refusals i; reaps = reaps i }
 
-both_none : (a : Totals) → both a zeros ≡ a
+pub both_none : (a : Totals) → both a zeros ≡ a
 both_none a = both_swap a zeros ∙ none_both a
 
 -- what one counted goes with those of the first kind, or of the second
@@ -64,9 +66,16 @@ with_second c a b = sym (both_assoc c a b) ∙ ap (λ (t : Totals). both t b) (b
 two_kinds : (a b c d : Totals) → both (both a b) (both c d) ≡ both (both a c) (both b d)
 two_kinds a b c d = both_assoc a b (both c d) ∙ ap (both a) (with_second b c d) ∙ sym (both_assoc a c (both b d))
 
-sum_append : (xs ys : List Totals) → sum_of (xs ++ ys) ≡ both (sum_of xs) (sum_of ys)
+pub sum_append : (xs ys : List Totals) → sum_of (xs ++ ys) ≡ both (sum_of xs) (sum_of ys)
 sum_append [] ys = sym (none_both (sum_of ys))
 sum_append (x ∷ xs) ys = ap (both x) (sum_append xs ys) ∙ sym (both_assoc x (sum_of xs) (sum_of ys))
+
+pub number_both : (quantity : Quantity) (a b : Totals) → number_of quantity a + number_of quantity b ≡ number_of quantity (both a b)
+number_both Gets a b = refl
+number_both Puts a b = refl
+number_both Deletes a b = refl
+number_both Refusals a b = refl
+number_both Reaps a b = refl
 
 every_append : {A : Type 0} (P : A → Type 0) (xs ys : List A) → Every P xs → Every P ys → Every P (xs ++ ys)
 every_append P [] ys h k = k

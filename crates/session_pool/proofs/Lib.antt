@@ -7,6 +7,8 @@ pub mod Resting
 pub mod Tellers
 pub mod Stations
 pub mod Gathering
+pub mod Counted
+pub mod Summing
 pub mod Told
 pub mod Legal
 pub mod Sources

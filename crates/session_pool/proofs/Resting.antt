@@ -1,5 +1,5 @@
 -- A session that goes on, and rests again or ends.
-use Rattle.std.proofs.Common.{◌≡◌, ◌∙◌, ℕ, List, false, refl, sym, ap, subst, inl, inr}
+use Rattle.std.proofs.Common.{◌≡◌, ◌∙◌, ℕ, List, true, false, refl, sym, ap, subst, inl, inr}
 use Rattle.std.specs.Prelude.{Bool, Option}
 use Rattle.riak_msgs.specs.declared.Request.{Request}
 use Rattle.riak_msgs.specs.declared.Reply.{Reply}
@@ -161,6 +161,11 @@ module _ {R W : Type 0} (remaining : R → Option (List ℕ)) (contents : W → 
           counts = λ whole. ap (λ (t : Totals). both t counted) (sym stays.before) ∙ counts whole ∙ ap (λ (s : SuspendedView R W). s.rest.count.counted) (sym same);
           room = λ whole. ap (λ (s : SuspendedView R W). s.rest.count.book_full) same ∙ room whole;
         }
+
+  -- where the worker has no room for it, nothing is said of what was counted
+  pub leaves_full : (shared : Gates) (session : SuspendedView R W) (counted none : Totals) (full : Bool) (left : Left R W) → LeavesSession remaining contents shared RunStep session counted full left → LeavesSession remaining contents shared RunStep session none true left
+  leaves_full shared session counted none full (lefts.Ended ended) h = record { after = h.after; ends = h.ends; counts = λ whole. absurd (cc whole) }
+  leaves_full shared session counted none full (lefts.Rests now) h = record { origin = h.origin; over = h.over; counts = λ whole. absurd (cc whole); room = λ whole. absurd (cc whole) }
 
 -- one that is left where it may be rests only where that is allowed
 pub rests_where : {R W : Type 0} (may_rest : Type 0) (stage : Stage) (left : Left R W) → MayBeLeft may_rest stage → (IsOver stage → IsEnd left) → RestsWhere may_rest left

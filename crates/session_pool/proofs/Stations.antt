@@ -1,7 +1,7 @@
 -- What workers are started with, and what is taken apart of what they leave.
 use Rattle.std.proofs.Common.{◌≡◌, ◌≤◌, ◌<◌, ◌∙◌, ◌+◌, ℕ, Bool, List, [], ◌∷◌, ◌++◌, length, arith, sym, ap, subst}
 use Rattle.std.proofs.lemmas.List.{map-append, length-append}
-use Rattle.std.specs.Prelude.{◌||◌, zero, suc, replicate}
+use Rattle.std.specs.Prelude.{◌||◌}
 use Rattle.job_pool.specs.Lists.{Every}
 use Rattle.job_pool.specs.declared.worker.NumberedEnd.{NumberedEnd}
 use Rattle.gate_node.specs.Gates.{Gates}
@@ -12,35 +12,21 @@ use Rattle.session_pool.specs.Suspending.{SuspendedView}
 use Rattle.session_pool.specs.Tellers.{TellerView, TellerStands, IsCovered, AreApart, sink_of, resting_of, are_full}
 use Rattle.session_pool.proofs.Tellers.{every_more, every_by, gates_kept, or_assoc, or_none, seen_through}
 
-every_front : {A : Type 0} (P : A → Type 0) (xs : List A) (x : A) → Every P (xs ++ x ∷ []) → Every P xs × P x
-every_front P [] x h = (tt, h.0)
-every_front P (y ∷ xs) x h = let rest = every_front P xs x h.1 in ((h.0, rest.0), rest.1)
+module _ {U T : Type 0} (N : U → Type 0) (P Q : T → Type 0) where
+  -- so many stations stand, and these seats are left
+  abbrev pub AreStarted : List U → List T → ℕ → Type 0
+  AreStarted seats stations count = Every N seats × Every P stations × Every Q stations × (length stations + length seats ≡ count)
 
-pub every_replicate : {A : Type 0} (n : ℕ) (x : A) (xs : List A) → xs ≡ replicate n x → Every (λ (y : A). y ≡ x) xs
-every_replicate zero x [] is = tt
-every_replicate zero x (y ∷ xs) is = absurd (cc is)
-every_replicate (suc n) x [] is = absurd (cc is)
-every_replicate (suc n) x (y ∷ xs) is = (cc is, every_replicate n x xs (cc is))
-
-module _ {S U T : Type 0} (Z : S → Type 0) (N : U → Type 0) (P Q : T → Type 0) where
-  -- so many stations stand, and for each seat that is left a stock is
-  abbrev pub AreStarted : List S → List U → List T → ℕ → Type 0
-  AreStarted left seats stations count = Every Z left × Every N seats × Every P stations × Every Q stations × (length left ≡ length seats) × (length stations + length seats ≡ count)
-
-  pub started_more : (left left' : List S) (stock : S) (seats seats' : List U) (seat : U) (stations stations' : List T) (station : T) (count : ℕ)
-      → left ≡ left' ++ stock ∷ [] → seats ≡ seat ∷ seats' → stations' ≡ stations ++ station ∷ [] → AreStarted left seats stations count → P station → (Z stock → Q station) → AreStarted left' seats' stations' count
-  started_more left left' stock seats seats' seat stations stations' station count is next more h new worker =
-      let stocks = every_front Z left' stock (subst (Every Z) is h.0) in
-      let rest = subst (Every N) next h.1 in
+  pub started_more : (seats seats' : List U) (seat : U) (stations stations' : List T) (station : T) (count : ℕ)
+      → seats ≡ seat ∷ seats' → stations' ≡ stations ++ station ∷ [] → AreStarted seats stations count → P station → Q station → AreStarted seats' stations' count
+  started_more seats seats' seat stations stations' station count next more h new worker =
+      let rest = subst (Every N) next h.0 in
       let sizes : length stations' ≡ length stations + 1 = ap length more ∙ length-append stations (station ∷ []) in
-      let before : length seats ≡ length (seat ∷ seats') = ap length next in
-      let stocks_before : length left ≡ length left' + 1 = ap length is ∙ length-append left' (stock ∷ []) in (
-        stocks.0,
+      let before : length seats ≡ length (seat ∷ seats') = ap length next in (
         rest.1,
-        subst (Every P) (sym more) (every_more P stations station h.2 new),
-        subst (Every Q) (sym more) (every_more Q stations station h.3 (worker stocks.1)),
-        omega (arith, before, stocks_before, h.4),
-        omega (arith, sizes, before, h.5),
+        subst (Every P) (sym more) (every_more P stations station h.1 new),
+        subst (Every Q) (sym more) (every_more Q stations station h.2 worker),
+        omega (arith, sizes, before, h.3),
       )
 
 -- room for one of a list that isn't at its end

@@ -1,5 +1,5 @@
 -- What a run of the pool comes to.
-use Rattle.std.proofs.Common.{arith, ◌≡◌, ◌∙◌, ◌⊎◌, ℕ, List, [], ◌∷◌, length, map, refl, sym, ap, subst, inl, inr}
+use Rattle.std.proofs.Common.{arith, ◌≡◌, ◌∙◌, ◌⊎◌, ◌+◌, ◌≤◌, ◌^◌, ℕ, List, [], ◌∷◌, length, map, refl, sym, ap, subst, inl, inr}
 use Rattle.std.proofs.lemmas.List.{length-map}
 use Rattle.std.specs.Prelude.{◌||◌, Bool, true, false, Option, Result}
 use Rattle.job_pool.specs.Giving.{GaveAll, Leaves}
@@ -11,7 +11,7 @@ use Rattle.job_pool.specs.declared.fault.RunFault.{RunFault}
 use Rattle.job_pool.specs.declared.fault.RunFault.TheVariants as runs
 use Rattle.job_pool.specs.declared.jobs.JobFault.{JobFault}
 use Rattle.job_pool.specs.declared.worker.NumberedEnd.{NumberedEnd}
-use Rattle.stats_book.specs.Counting.{sum_of, zeros}
+use Rattle.stats_book.specs.Counting.{ArePastFull, both, number_of, sum_of, zeros}
 use Rattle.stats_book.specs.declared.totals.Totals.{Totals}
 use Rattle.gate_node.specs.Gates.{Gates}
 use Rattle.gate_node.specs.Merging.{HaveSeenAllOf}
@@ -22,11 +22,11 @@ use Rattle.session_pool.specs.declared.end_sink.SessionEnd.{SessionEnd}
 use Rattle.session_pool.specs.declared.host.LeftSession.{LeftSession}
 use Rattle.session_pool.specs.declared.served.Served.{Served}
 use Rattle.session_pool.specs.Serving.{CountsInStay}
-use Rattle.session_pool.specs.Settling.{Settles, IsFaultAfterTold, pool_fault}
+use Rattle.session_pool.specs.Settling.{Settles, AreTooMany, IsFaultAfterTold, pool_fault}
 use Rattle.session_pool.specs.Suspending.{SuspendedView}
 use Rattle.session_pool.specs.Tellers.{TellerView, IsCovered, is_full, are_full, sink_of, told_to}
-use Rattle.session_pool.specs.Telling.{TellsSource, LeavesTold, GavePastFullBook}
-use Rattle.session_pool.proofs.Gathering.{all_gathered}
+use Rattle.session_pool.specs.Telling.{TellsSource, LeavesTold, GavePastFullBook, GavePastSums, count_told, count_rested, told_of}
+use Rattle.session_pool.proofs.Gathering.{all_gathered, none_both, number_both}
 
 pub every_map : {A B : Type 0} (f : A → B) (P : B → Type 0) (xs : List A) → Every (λ (x : A). P (f x)) xs → Every P (map f xs)
 every_map f P [] h = tt
@@ -37,6 +37,13 @@ pairwise_length R [] [] h = refl
 pairwise_length R [] (y ∷ ys) h = absurd h
 pairwise_length R (x ∷ xs) [] h = absurd h
 pairwise_length R (x ∷ xs) (y ∷ ys) h = let rest = pairwise_length R xs ys h.1 in omega (arith, rest)
+
+-- what two counts pass together, two others do that come to the same
+past_by : (a b c d : Totals) → both a b ≡ both c d → ArePastFull a b → ArePastFull c d
+past_by a b c d same past =
+    let quantity = past.0 in
+    let number : number_of quantity a + number_of quantity b ≡ number_of quantity c + number_of quantity d = number_both quantity a b ∙ ap (number_of quantity) same ∙ sym (number_both quantity c d) in
+    (quantity, subst (λ (n : ℕ). 2 ^ 64 ≤ n) number past.1)
 
 or_true : (a b : Bool) → (a || b) ≡ true → (a ≡ true) ⊎ (b ≡ true)
 or_true true b h = inl refl
@@ -79,13 +86,9 @@ module _ {J R W K : Type 0} (Gives : J → Result (Option (SuspendedView R W)) J
     ]
 
     module _ (firsts workers : List Totals) (tellers : List (TellerView R W K)) (count away : ℕ) (once : ToldOnce Counts told_to given firsts workers tellers count away) where
-      -- there are as many sinks and states as workers were started
+      -- there are as many sinks as workers were started
       pub tellers_count : length tellers ≡ length firsts
       tellers_count = sym (pairwise_length (IsTold told_to given) once.shares tellers once.each) ∙ sym (length-map once.shares (λ (share : WorkerTurns Totals (SuspendedView R W) (LeftSession R W)). share.first)) ∙ ap length once.began
-
-      pub workers_count : length workers ≡ length firsts
-      workers_count = sym (ap length once.left) ∙ length-map once.shares (λ (share : WorkerTurns Totals (SuspendedView R W) (LeftSession R W)). share.last)
-          ∙ sym (length-map once.shares (λ (share : WorkerTurns Totals (SuspendedView R W) (LeftSession R W)). share.first)) ∙ ap length once.began
 
       module _ (before seen : Sights) (more : HaveSeenAllOf seen before) where
         -- what the workers' run told, and what is left of it
@@ -123,12 +126,42 @@ module _ {J R W K : Type 0} (Gives : J → Result (Option (SuspendedView R W)) J
               },
             )
 
-      -- and where it ends behind that
-      pub leaves_told : (seen : Sights) (fault : PoolFault) → IsFaultAfterTold told shared tellers seen fault → LeavesTold Gives may_rest remaining contents shared fault first last
-      leaves_told seen NoMemory h = (given, inr gave)
-      leaves_told seen NoThread h = absurd h
-      leaves_told seen JobsFailed h = absurd h
-      leaves_told seen BookFull h = full_session seen once.shares tellers once.chained once.each h.1 h.0
+      module _ (zero : Every (λ (t : Totals). t ≡ zeros) firsts) (seen : Sights) where
+        -- where no session met a full book, and the workers have too many together
+        past_sums : are_full tellers ≡ false → ArePastFull zeros (sum_of workers) → Every (IsCovered told shared seen) tellers → GavePastSums Gives may_rest remaining contents shared first last
+        past_sums whole past stand =
+            let began = subst (Every (λ (t : Totals). t ≡ zeros)) (sym once.began) zero in
+            let all = all_gathered may_rest remaining contents shared given seen told once.shares tellers began once.chained once.each stand whole in
+            let sums : both zeros (sum_of workers) ≡ both (sum_of (map count_told all.ended)) (sum_of (map count_rested all.rested)) = none_both (sum_of workers) ∙ ap sum_of (sym once.left) ∙ all.sums in
+            record {
+              given = given;
+              all = gave;
+              seen = seen;
+              ended = all.ended;
+              rested = all.rested;
+              refusals = once.refusals;
+              each = all.each;
+              each_rests = all.each_rests;
+              once = λ w.
+                  let tells : weight_told w (map told_of all.ended) ≡ weight_told w (told_by told (map sink_of tellers)) = ap (weight_told w) all.tells_are in
+                  let weighs = all.weighs w in
+                  let is = once.once w in
+                  omega (arith, tells, weighs, is);
+              past = past_by zeros (sum_of workers) (sum_of (map count_told all.ended)) (sum_of (map count_rested all.rested)) sums past;
+            }
+
+        too_many : AreTooMany told shared workers tellers → Every (IsCovered told shared seen) tellers → LeavesTold Gives may_rest remaining contents shared BookFull first last
+        too_many h stand = elim h [
+          | inl full ↦ inl (full_session seen once.shares tellers once.chained once.each stand full)
+          | inr sums ↦ inr (past_sums sums.0 sums.1 stand)
+        ]
+
+        -- and where it ends behind that
+        pub leaves_told : (fault : PoolFault) → IsFaultAfterTold told shared workers tellers seen fault → LeavesTold Gives may_rest remaining contents shared fault first last
+        leaves_told NoMemory h = absurd h
+        leaves_told NoThread h = absurd h
+        leaves_told JobsFailed h = absurd h
+        leaves_told BookFull h = too_many h.0 h.1
 
   -- what is left of the source where the run of the workers ends by a fault
   pub leaves_by : (fault : RunFault) → Leaves Gives fault first last → LeavesTold Gives may_rest remaining contents shared (pool_fault fault) first last

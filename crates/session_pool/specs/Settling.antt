@@ -1,10 +1,10 @@
 -- What is left of the workers of a run that were joined.
-use Rattle.std.specs.Prelude.{◌≡◌, ℕ, true, false, List, map}
+use Rattle.std.specs.Prelude.{◌≡◌, ◌⊎◌, ℕ, true, false, List, map}
 use Rattle.job_pool.specs.Lists.{Every}
 use Rattle.job_pool.specs.declared.fault.RunFault.{RunFault}
 use Rattle.job_pool.specs.declared.fault.RunFault.TheVariants as runs
 use Rattle.job_pool.specs.declared.worker.NumberedEnd.{NumberedEnd}
-use Rattle.stats_book.specs.Counting.{sum_of}
+use Rattle.stats_book.specs.Counting.{ArePastFull, sum_of, zeros}
 use Rattle.stats_book.specs.declared.totals.Totals.{Totals}
 use Rattle.gate_node.specs.Gates.{Gates}
 use Rattle.gate_node.specs.Passes.{Sights}
@@ -31,9 +31,13 @@ module _ {R W K : Type 0} (told : K → List (NumberedEnd (SessionEnd R W))) (ga
     pub accepted : served.accepted ≡ given
     pub refused : served.refused ≡ away
 
+  -- the book was full in a session of one of these tellers, or in none of them, and what the workers counted would pass the last number together
+  abbrev pub AreTooMany : List Totals → List (TellerView R W K) → Type 0
+  AreTooMany workers tellers = (are_full tellers ≡ true) ⊎ ((are_full tellers ≡ false) × ArePastFull zeros (sum_of workers))
+
   -- why nothing is left
-  abbrev pub IsFaultAfterTold : List (TellerView R W K) → Sights → PoolFault → Type 0
-  IsFaultAfterTold tellers seen NoMemory = Unit {0}
-  IsFaultAfterTold tellers seen NoThread = ⊥
-  IsFaultAfterTold tellers seen JobsFailed = ⊥
-  IsFaultAfterTold tellers seen BookFull = (are_full tellers ≡ true) × Every (IsCovered told gates seen) tellers
+  abbrev pub IsFaultAfterTold : List Totals → List (TellerView R W K) → Sights → PoolFault → Type 0
+  IsFaultAfterTold workers tellers seen NoMemory = ⊥
+  IsFaultAfterTold workers tellers seen NoThread = ⊥
+  IsFaultAfterTold workers tellers seen JobsFailed = ⊥
+  IsFaultAfterTold workers tellers seen BookFull = AreTooMany workers tellers × Every (IsCovered told gates seen) tellers

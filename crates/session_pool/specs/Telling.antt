@@ -1,12 +1,12 @@
 -- What a run of the pool comes to.
-use Rattle.std.specs.Prelude.{◌≡◌, ◌+◌, ℕ, true, false, List, [], ◌∷◌, Option, Some, Result, length, map, slice_get}
+use Rattle.std.specs.Prelude.{◌≡◌, ◌+◌, ◌⊎◌, ℕ, true, false, List, [], ◌∷◌, Option, Some, Result, length, map, slice_get}
 use Rattle.job_pool.specs.Ends.{told_by, weight_told, weight_refused}
 use Rattle.job_pool.specs.Giving.{GaveAll, GaveSome, GaveThenFailed}
 use Rattle.job_pool.specs.Lists.{Every, concat}
 use Rattle.job_pool.specs.Queue.{weight_below}
 use Rattle.job_pool.specs.declared.jobs.JobFault.{JobFault}
 use Rattle.job_pool.specs.declared.worker.NumberedEnd.{NumberedEnd}
-use Rattle.stats_book.specs.Counting.{both, sum_of}
+use Rattle.stats_book.specs.Counting.{ArePastFull, both, sum_of}
 use Rattle.stats_book.specs.declared.totals.Totals.{Totals}
 use Rattle.gate_node.specs.Gates.{Gates}
 use Rattle.gate_node.specs.GateStep.{NodeOverGates}
@@ -102,7 +102,7 @@ module _ {R W : Type 0} where
     TellsSource Gives first before served last seen = (given : List (SuspendedView R W)) × GaveAll Gives first given last × TellsAll given before served seen
 
 module _ {J R W : Type 0} (Gives : J → Result (Option (SuspendedView R W)) JobFault → J → Type 0) (may_rest : Type 0) (remaining : R → Option (List ℕ)) (contents : W → Option (List ℕ)) (shared : Gates) where
-  -- all sessions were given, and in one of them the book was full
+  -- all sessions were given, and at the end of one of them its worker had no room for what it had counted
   pub record GavePastFullBook (first last : J) : Type 0 where
     pub given : List (SuspendedView R W)
     pub all : GaveAll Gives first given last
@@ -115,9 +115,23 @@ module _ {J R W : Type 0} (Gives : J → Result (Option (SuspendedView R W)) Job
     pub counts : CountsInStay may_rest remaining contents shared before session after one
     pub full : one.book_full ≡ true
 
+  -- All sessions were given; these ended, these rest and the others were refused, each once, and at none of their ends a worker had no room. But what
+  -- they counted would pass the last number of some quantity together.
+  pub record GavePastSums (first last : J) : Type 0 where
+    pub given : List (SuspendedView R W)
+    pub all : GaveAll Gives first given last
+    pub seen : Sights
+    pub ended : List (ToldSession R W)
+    pub rested : List (RestedSession R W)
+    pub refusals : List ℕ
+    pub each : Every (IsToldSession remaining contents shared given seen) ended
+    pub each_rests : Every (IsRestedSession remaining contents shared given may_rest) rested
+    pub once : (w : ℕ → ℕ) → (weight_told w (map told_of ended) + weight_rested w rested) + weight_refused w refusals ≡ weight_below w (length given)
+    pub past : ArePastFull (sum_of (map count_told ended)) (sum_of (map count_rested rested))
+
   -- what is left of the source of sessions
   abbrev pub LeavesTold : PoolFault → J → J → Type 0
   LeavesTold NoMemory first last = GaveSome Gives first last
   LeavesTold NoThread first last = last ≡ first
   LeavesTold JobsFailed first last = GaveThenFailed Gives first last
-  LeavesTold BookFull first last = GavePastFullBook first last
+  LeavesTold BookFull first last = GavePastFullBook first last ⊎ GavePastSums first last

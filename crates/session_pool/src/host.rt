@@ -9,12 +9,10 @@ use crate::suspended::Suspended;
 use crate::tray::Tray;
 use gate_node::{Shared, Turnstile};
 use job_pool::{Moved, Service};
-use stats_book::Book;
 use std::alloc::Global;
 use std::io::{Read, Write};
 use std::marker::{Brand, Model, PhantomData};
 use std::sync::Wait;
-use std::sync::ledger::Ledger;
 
 /// Which gates a run is over. Each run picks its own, so that the passes of a worker are known to be of the gates of its sessions.
 pub trait OfGates {
@@ -29,7 +27,7 @@ impl OfGates for Brand {
     ghost gates = { no_gates };
 }
 
-/// How a session of a run was left, and whether the book was full at one of its answers.
+/// How a session of a run was left, and whether its worker had no room for all that there was to be counted in it.
 #[derive(Drop)]
 pub struct LeftSession<R: Read, W: Write> {
     pub left: Left<R, W>,
@@ -38,23 +36,9 @@ pub struct LeftSession<R: Read, W: Write> {
 
 /// Serves the sessions of a run over the gates that `H` names. All workers share it.
 #[derive(Drop)]
-pub struct Host<
-    'a,
-    H: OfGates,
-    X,
-    T,
-    Q,
-    R,
-    W,
-    G: Ledger,
-    P: Ledger,
-    D: Ledger,
-    E: Ledger,
-    L: Ledger,
-> {
+pub struct Host<'a, H: OfGates, X, T, Q, R, W> {
     pub(crate) rt: &'a X,
     pub(crate) shared: &'a Shared,
-    pub(crate) book: &'a Book<G, P, D, E, L>,
     pub(crate) turnstile: &'a T,
     pub(crate) pause: &'a Q,
     /// What each worker keeps, in the workers' order.
@@ -64,8 +48,7 @@ pub struct Host<
     pub(crate) writers: PhantomData<W>,
 }
 
-impl<'a, H: OfGates, X, T, Q, R, W, G: Ledger, P: Ledger, D: Ledger, E: Ledger, L: Ledger> Model
-    for Host<'a, H, X, T, Q, R, W, G, P, D, E, L> {
+impl<'a, H: OfGates, X, T, Q, R, W> Model for Host<'a, H, X, T, Q, R, W> {
     ghost use Rattle.std.specs.Prelude.{◌≡◌};
     ghost use Rattle.gate_node.specs.Gates.{Gates};
 
@@ -76,15 +59,7 @@ impl<'a, H: OfGates, X, T, Q, R, W, G: Ledger, P: Ledger, D: Ledger, E: Ledger, 
     ghost invariant = { λ h. h.shared.now ≡ H.gates };
 }
 
-impl<'a, H, X, T, Q, R, W, G, P, D, E, L> Host<'a, H, X, T, Q, R, W, G, P, D, E, L>
-where
-    H: OfGates,
-    G: Ledger,
-    P: Ledger,
-    D: Ledger,
-    E: Ledger,
-    L: Ledger,
-{
+impl<'a, H: OfGates, X, T, Q, R, W> Host<'a, H, X, T, Q, R, W> {
     /// The gates.
     pub(crate) fn shared(&self) -> &Shared
         ensures shared { result.now ≡ self.now }
@@ -94,7 +69,7 @@ where
     }
 }
 
-impl<'a, H, X, T, Q, R, W, G, P, D, E, L> Service for Host<'a, H, X, T, Q, R, W, G, P, D, E, L>
+impl<'a, H, X, T, Q, R, W> Service for Host<'a, H, X, T, Q, R, W>
 where
     H: OfGates + Sync,
     X: Wait + Sync,
@@ -102,19 +77,14 @@ where
     Q: Pause + Sync,
     R: Read + Drop + Send + Sync,
     W: Write + Drop + Send + Sync,
-    G: Ledger,
-    P: Ledger,
-    D: Ledger,
-    E: Ledger,
-    L: Ledger,
 {
     type Job = Suspended<R, W>;
 
     type End = LeftSession<R, W>;
 
-    type Worker = Tray<G, P, D, E, L>;
+    type Worker = Tray;
 
-    type Open = Stay<'a, X, T, R, W, G, P, D, E, L>;
+    type Open = Stay<'a, X, T, R, W>;
 
     ghost use Rattle.session_pool.specs.Serving.{CountsInStay, MayBeLeft};
     ghost use Rattle.session_pool.specs.Suspending.{CanGoOn, StaysOver};
@@ -130,18 +100,15 @@ where
     fn open(
         &self,
         _alloc: Global,
-        worker: &mut Tray<G, P, D, E, L>,
+        worker: &mut Tray,
         job: Suspended<R, W>,
-    ) -> Result<Stay<'a, X, T, R, W, G, P, D, E, L>, Suspended<R, W>> {
-        let Some(share) = worker.take() else {
-            return Err(job);
-        };
+    ) -> Result<Stay<'a, X, T, R, W>, Suspended<R, W>> {
         let kept = self.kept.get(worker.place);
-        Ok(job.go_on(self.rt, self.shared, self.book, share, self.turnstile, kept))
+        Ok(job.go_on(self.rt, self.shared, self.turnstile, kept))
     }
 
     /// Gives the worker's reserve up, where it has one.
-    fn make_room(&self, _alloc: Global, worker: &Tray<G, P, D, E, L>) -> bool {
+    fn make_room(&self, _alloc: Global, worker: &Tray) -> bool {
         match self.kept.get(worker.place) {
             Some(kept) => kept.reserve.give_up(),
             None => false,
@@ -152,8 +119,8 @@ where
     fn step(
         &self,
         alloc: Global,
-        worker: &mut Tray<G, P, D, E, L>,
-        opened: &mut Stay<'a, X, T, R, W, G, P, D, E, L>,
+        worker: &mut Tray,
+        opened: &mut Stay<'a, X, T, R, W>,
         may_wait: bool,
     ) -> Moved {
         if self.pause.is_raised() {
@@ -162,13 +129,12 @@ where
         opened.step(alloc, &mut worker.scratch, may_wait)
     }
 
-    fn close(
-        &self,
-        worker: &mut Tray<G, P, D, E, L>,
-        opened: Stay<'a, X, T, R, W, G, P, D, E, L>,
-    ) -> LeftSession<R, W> {
-        let (left, share, book_full) = opened.leave(&mut worker.scratch);
-        worker.give_back(share);
-        LeftSession { left, book_full }
+    fn close(&self, worker: &mut Tray, opened: Stay<'a, X, T, R, W>) -> LeftSession<R, W> {
+        let (left, count) = opened.leave(&mut worker.scratch);
+        let is_added = worker.add(count);
+        LeftSession {
+            left,
+            book_full: !is_added,
+        }
     }
 }

@@ -2,8 +2,8 @@
 ghost use Rattle.std.specs.Prelude.{◌≡◌, length, IfOk};
 
 use gate_node::{GateNode, GivenUp, PartitionCache, Reserve, Ring, Turnstile};
+use stats_book::SessionCount;
 use std::alloc::{AllocError, Global};
-use std::sync::ledger::Ledger;
 use std::sync::{Mutex, Wait};
 
 /// Of how many keys a worker remembers the partitions: 416 KiB of them.
@@ -78,19 +78,10 @@ pub(crate) fn new_kept<'a>(
 }
 
 /// A node with what its worker keeps, where it does.
-pub(crate) fn kept_by<
-    'a,
-    X: Wait,
-    T: Turnstile,
-    G: Ledger,
-    P: Ledger,
-    D: Ledger,
-    E: Ledger,
-    L: Ledger,
->(
-    node: GateNode<'a, X, T, G, P, D, E, L>,
+pub(crate) fn kept_by<'a, X: Wait, T: Turnstile>(
+    node: GateNode<'a, X, T, SessionCount>,
     worker: Option<&'a KeptByWorker<'a>>,
-) -> GateNode<'a, X, T, G, P, D, E, L>
+) -> GateNode<'a, X, T, SessionCount>
     ensures { result ≡ node.entry }
 {
     let Some(worker) = worker else {

@@ -21,14 +21,13 @@
 //! tallies_of(&rt, alloc, &later, slice::from_ref(&seen))
 //! ```
 //!
-//! What it costs: what a run of `job_pool` costs, the book's lock once for each session and run,
-//! and a thread for each worker. A session that rests takes its streams, its passes and what it has
-//! in part, as one that is open does; to lay it down and to go on take no memory, beside a place
-//! for each that a worker has open.
+//! What it costs: what a run of `job_pool` costs, and a thread for each worker. A session that rests
+//! takes its streams, its passes and what it has in part, as one that is open does; to lay it down
+//! and to go on take no memory, beside a place for each that a worker has open.
 //!
 //! How it is built: an open session ([`Stay`]) is a service of `job_pool`. It has a node of its
-//! own, over its passes and a share of the book that has counted nothing, and where it is left the
-//! worker takes the share back. So what a step changes is that session's alone. For clauses its
+//! own, over its passes, which counts by itself, and when it is left its worker adds what it has
+//! counted. So what a step changes is that session's alone. For clauses its
 //! node ([`RunNode`]) stands where the session rested, until its next step is taken over the gates
 //! as they are then. So what was said of the session so far is said of it. What says where is a
 //! [`Rest`], which has no bytes. Of two passes of a gate the one behind has seen a beginning of
@@ -46,7 +45,8 @@
 //!
 //! All sessions see one history of the primary of each partition, through as many runs as `seen` is
 //! handed on to. A session rests only if the pause can be raised. `BookFull` comes only if all
-//! sessions were given.
+//! sessions were given. In one of them a number would have passed the last one, or the sum over
+//! the workers would.
 //!
 //! By `serve`, `Suspended::new`; laws `told_sessions_are_at_positions`, `told_sessions_are_legal`,
 //! `sessions_go_on`, `sessions_stay_in_their_run`, `sessions_are_at_positions`.
@@ -94,7 +94,7 @@ pub use node_session::{Ended, MAX_READ_LEN, SessionFault};
 pub use pause::{NoPause, Pause};
 pub use pool::serve;
 pub use rest::{Began, Rest};
-pub use run_node::RunNode;
+pub use run_node::{NodeParts, RunNode};
 pub use seat::Seat;
 pub use served::Served;
 pub use suspended::Suspended;

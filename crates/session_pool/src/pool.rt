@@ -2,7 +2,6 @@
 ghost use Rattle.std.specs.Prelude.{◌≡◌, ◌≤◌, length, IfOk, IfErr};
 ghost use Rattle.job_pool.specs.Giving.{GivesOnly};
 ghost use Rattle.job_pool.specs.Lists.{Every};
-ghost use Rattle.stats_book.specs.Holdings.{AllAre};
 ghost use Rattle.gate_node.specs.Merging.{HaveSeenAllOf};
 ghost use Rattle.gate_node.specs.Passes.{ArePassesOf};
 ghost use Rattle.session_pool.specs.Settling.{pool_fault};
@@ -21,16 +20,11 @@ use crate::station::stations_of;
 use crate::suspended::Suspended;
 use gate_node::{GivenUp, Passes, PoolFault, Shared, Turnstile};
 use job_pool::{Bell, Jobs, RunFault, StreamReadiness, run_at};
-use stats_book::{Blanks, open_stocks};
 use std::alloc::Global;
 use std::io::{Read, Write};
 use std::marker::{Brand, PhantomData};
 use std::sync::Wait;
-use std::sync::ledger::Ledger;
 use std::thread::Threads;
-
-/// How many shares the book of a run has: more than there are sessions.
-const SHARES: u64 = 18_446_744_073_709_551_615;
 
 /// The fault of the run below.
 fn fault_of(fault: RunFault) -> PoolFault
@@ -43,82 +37,66 @@ fn fault_of(fault: RunFault) -> PoolFault
     }
 }
 
-/// A run by a book of these ledgers, over the gates that `H` names, whose workers keep this.
-fn serve_by<X, J, R, W, T, Q, K, Y, B, H, G, P, D, E, L>(
-    rt: &X,
-    alloc: Global,
-    shared: &Shared,
-    sessions: &mut J,
-    seats: Vec<Seat<K, Y, B>>,
-    turnstile: &T,
-    pause: &Q,
-    kept: &Kept<'_>,
-    seen: &mut Passes,
-    blanks: Blanks,
-) -> Result<Served<R, W, K>, PoolFault>
+impl<H, X, T, Q, R, W> Host<'_, H, X, T, Q, R, W>
 where
+    H: OfGates + Sync + Send,
     X: Threads + Wait + Sync,
-    J: Jobs<Job = Suspended<R, W>>,
-    R: Read + Drop + Send + Sync,
-    W: Write + Drop + Send + Sync,
     T: Turnstile + Sync,
     Q: Pause + Sync,
-    K: EndSink<R, W> + Drop + Send,
-    Y: StreamReadiness<R, W> + Drop + Send,
-    B: Bell + Drop,
-    H: OfGates + Sync + Send,
-    G: Ledger + Send + Sync,
-    P: Ledger + Send + Sync,
-    D: Ledger + Send + Sync,
-    E: Ledger + Send + Sync,
-    L: Ledger + Send + Sync,
-    requires of_run { shared.now ≡ H.gates }
-    requires workers { (1 ≤ length seats.items) × (length seats.items ≤ 64) }
-    requires new { Every (IsNewSeat K.told K.has_room) seats.items }
-    requires sessions { GivesOnly J.gives (CanGoOn shared.now) sessions.old }
-    requires seen { ArePassesOf shared.now seen.old }
-    requires gets { (blanks.gets.name ≡ G.name) × (blanks.gets.parts ≡ G.parts) }
-    requires puts { (blanks.puts.name ≡ P.name) × (blanks.puts.parts ≡ P.parts) }
-    requires deletes { (blanks.deletes.name ≡ D.name) × (blanks.deletes.parts ≡ D.parts) }
-    requires refusals { (blanks.refusals.name ≡ E.name) × (blanks.refusals.parts ≡ E.parts) }
-    requires reaps { (blanks.reaps.name ≡ L.name) × (blanks.reaps.parts ≡ L.parts) }
-    requires parts { AllAre SHARES G.parts P.parts D.parts E.parts L.parts }
-    ensures served { IfOk result (λ served.
-        TellsSource Q.can_be_raised R.remaining W.contents K.told shared.now J.gives
-        sessions.old seen.old served sessions.new seen.new) }
-    ensures sinks { IfOk result (λ served. length served.sinks.items ≡ length seats.items) }
-    ensures fault { IfErr result (λ fault. LeavesTold J.gives Q.can_be_raised
-        R.remaining W.contents shared.now fault sessions.old sessions.new) }
-    ensures more { HaveSeenAllOf seen.new seen.old }
-    ensures passes { ArePassesOf shared.now seen.new }
+    R: Read + Drop + Send + Sync,
+    W: Write + Drop + Send + Sync,
 {
-    let Ok(workers) = u16::try_from(seats.len()) else {
-        unreachable!()
-    };
-    let Ok((book, rest, stocks)) = open_stocks::<G, P, D, E, L>(alloc, workers, SHARES, blanks)
-    else {
-        return Err(PoolFault::NoMemory);
-    };
-    let Ok(places) = new_places(alloc, seats.len()) else {
-        return Err(PoolFault::NoMemory);
-    };
-    let Ok(stations) = stations_of(alloc, shared, stocks, seats, kept) else {
-        return Err(PoolFault::NoMemory);
-    };
-    let host = Host::<H, X, T, Q, R, W, G, P, D, E, L> {
-        rt,
-        shared,
-        book: &book,
-        turnstile,
-        pause,
-        kept: kept.workers.as_slice(),
-        of: PhantomData,
-        readers: PhantomData,
-        writers: PhantomData,
-    };
-    match run_at(rt, alloc, &host, sessions, stations) {
-        Ok(told) => settle(book, rest, places, told, seen),
-        Err(fault) => Err(fault_of(fault)),
+    /// A run over the gates that `H` names, whose workers keep this.
+    fn serve<J, K, Y, B>(
+        rt: &X,
+        alloc: Global,
+        shared: &Shared,
+        sessions: &mut J,
+        seats: Vec<Seat<K, Y, B>>,
+        turnstile: &T,
+        pause: &Q,
+        kept: &Kept<'_>,
+        seen: &mut Passes,
+    ) -> Result<Served<R, W, K>, PoolFault>
+    where
+        J: Jobs<Job = Suspended<R, W>>,
+        K: EndSink<R, W> + Drop + Send,
+        Y: StreamReadiness<R, W> + Drop + Send,
+        B: Bell + Drop,
+        requires of_run { shared.now ≡ H.gates }
+        requires workers { (1 ≤ length seats.items) × (length seats.items ≤ 64) }
+        requires new { Every (IsNewSeat K.told K.has_room) seats.items }
+        requires sessions { GivesOnly J.gives (CanGoOn shared.now) sessions.old }
+        requires seen { ArePassesOf shared.now seen.old }
+        ensures served { IfOk result (λ served.
+            TellsSource Q.can_be_raised R.remaining W.contents K.told shared.now J.gives
+            sessions.old seen.old served sessions.new seen.new) }
+        ensures sinks { IfOk result (λ served. length served.sinks.items ≡ length seats.items) }
+        ensures fault { IfErr result (λ fault. LeavesTold J.gives Q.can_be_raised
+            R.remaining W.contents shared.now fault sessions.old sessions.new) }
+        ensures more { HaveSeenAllOf seen.new seen.old }
+        ensures passes { ArePassesOf shared.now seen.new }
+    {
+        let Ok(places) = new_places(alloc, seats.len()) else {
+            return Err(PoolFault::NoMemory);
+        };
+        let Ok(stations) = stations_of(alloc, shared, seats, kept) else {
+            return Err(PoolFault::NoMemory);
+        };
+        let host = Host::<H, X, T, Q, R, W> {
+            rt,
+            shared,
+            turnstile,
+            pause,
+            kept: kept.workers.as_slice(),
+            of: PhantomData,
+            readers: PhantomData,
+            writers: PhantomData,
+        };
+        match run_at(rt, alloc, &host, sessions, stations) {
+            Ok(told) => settle(places, told, seen),
+            Err(fault) => Err(fault_of(fault)),
+        }
     }
 }
 
@@ -153,7 +131,8 @@ where
 /// - `NoMemory`: memory was refused to the run. The source gave some sessions, or all of them.
 /// - `NoThread`: the system refused a thread. No session was taken from the source.
 /// - `JobsFailed`: the source gave some sessions and then a fault. The sessions that it gave were served or refused.
-/// - `BookFull`: all sessions were served or refused, and in one of them a total would have passed 18,446,744,073,709,551,615.
+/// - `BookFull`: all sessions were served or refused, and a total would have passed 18,446,744,073,709,551,615: that of a worker, at the end of one
+///   of its sessions, or the sum over the workers.
 ///
 /// It waits for the workers, and they for sessions and for one another. It returns if each call of the source, of the turnstile and of the pause
 /// does, and each session is over, or rests, after finitely many turns.
@@ -194,16 +173,7 @@ where
     let Ok(kept) = new_kept(alloc, shared.handoff().ring(), seats.len(), &given_up) else {
         return Err(PoolFault::NoMemory);
     };
-    serve_by::<X, J, R, W, T, Q, K, Y, B, Brand, Brand, Brand, Brand, Brand, Brand>(
-        rt,
-        alloc,
-        shared,
-        sessions,
-        seats,
-        turnstile,
-        pause,
-        &kept,
-        seen,
-        Blanks::of(SHARES),
+    Host::<Brand, X, T, Q, R, W>::serve(
+        rt, alloc, shared, sessions, seats, turnstile, pause, &kept, seen,
     )
 }

@@ -1,19 +1,18 @@
 //! A node that goes on over later gates of its run.
-ghost use Rattle.std.specs.Prelude.{◌≡◌, ◌⊎◌, false, true};
-ghost use Rattle.stats_book.specs.Counting.{both, zeros};
+ghost use Rattle.std.specs.Prelude.{◌≡◌, false};
+ghost use Rattle.stats_book.specs.Counting.{zeros};
 ghost use Rattle.gate_node.specs.Passes.{ArePassesOf};
-ghost use Rattle.session_pool.specs.Resuming.{IsLater, gates_in};
+ghost use Rattle.session_pool.specs.Resuming.{IsLater, gates_in, on_top};
 
 use crate::rest::{Rest, SeenGates, Standing, gates_seen};
 use gate_node::{GateNode, Passes, Shared, Turnstile};
 use ghost_state::{GhostList, Listing};
 use node_session::{FramedReply, Node, ReplyFrame, Scratch};
 use riak_msgs::{Reply, Request};
-use stats_book::Share;
+use stats_book::SessionCount;
 use std::alloc::Global;
 use std::marker::Model;
 use std::sync::Wait;
-use std::sync::ledger::Ledger;
 
 /// A node over the gates of a run, whose session may rest, and goes on by another one once partitions were diverted.
 ///
@@ -22,24 +21,15 @@ use std::sync::ledger::Ledger;
 /// session so far stays true. Each step is one of [`GateNode`] over the gates as they are then, and counted as there.
 ///
 /// ```text
-/// let node = RunNode::resumed(shared, GateNode::new(rt, shared, &book, share, passes, &Open), rest);
+/// let node = RunNode::resumed(shared, GateNode::counting_by(rt, shared, SessionCount::new(), passes, &Open), rest);
 /// course.step(alloc, &mut reader, &mut writer, &mut node, &mut scratch)      // as often as is wanted
-/// let (share, passes, _, rest) = node.parts();                              // the session rests
+/// let NodeParts { count, passes, rest } = node.parts();                     // the session rests
 /// handoff.divert(alloc, 0)
-/// let node = RunNode::resumed(later, GateNode::new(rt, later, &book, other, passes, &Open), rest);
+/// let node = RunNode::resumed(later, GateNode::counting_by(rt, later, SessionCount::new(), passes, &Open), rest);
 /// course.step(alloc, &mut reader, &mut writer, &mut node, &mut scratch)      // goes on, over the fallback of partition 0
 /// ```
-pub struct RunNode<
-    'a,
-    W: Wait,
-    T: Turnstile,
-    G: Ledger,
-    P: Ledger,
-    D: Ledger,
-    E: Ledger,
-    L: Ledger,
-> {
-    node: GateNode<'a, W, T, G, P, D, E, L>,
+pub struct RunNode<'a, W: Wait, T: Turnstile> {
+    node: GateNode<'a, W, T, SessionCount>,
     shared: &'a Shared,
     /// The gates of its last step.
     at: GhostList<SeenGates>,
@@ -47,9 +37,16 @@ pub struct RunNode<
     rest: Rest,
 }
 
+/// What is left of a node: what it counted since it went on, the passes for the node by which its session goes on, and where it stands.
+#[derive(Drop)]
+pub struct NodeParts {
+    pub count: SessionCount,
+    pub passes: Passes,
+    pub rest: Rest,
+}
+
 /// One call at each place where one is let go.
-impl<'a, W: Wait, T: Turnstile, G: Ledger, P: Ledger, D: Ledger, E: Ledger, L: Ledger> Drop
-    for RunNode<'a, W, T, G, P, D, E, L> {
+impl<'a, W: Wait, T: Turnstile> Drop for RunNode<'a, W, T> {
     fn drop(self) {
         let RunNode {
             node: _node,
@@ -60,8 +57,7 @@ impl<'a, W: Wait, T: Turnstile, G: Ledger, P: Ledger, D: Ledger, E: Ledger, L: L
     }
 }
 
-impl<'a, W: Wait, T: Turnstile, G: Ledger, P: Ledger, D: Ledger, E: Ledger, L: Ledger> Model
-    for RunNode<'a, W, T, G, P, D, E, L> {
+impl<'a, W: Wait, T: Turnstile> Model for RunNode<'a, W, T> {
     ghost use Rattle.std.specs.Prelude.{◌≡◌};
     ghost use Rattle.session_pool.specs.Resuming.{IsLater, RunNodeView, gates_in, on_top};
 
@@ -84,10 +80,7 @@ impl<'a, W: Wait, T: Turnstile, G: Ledger, P: Ledger, D: Ledger, E: Ledger, L: L
 /// Where a node of a run stands.
 struct ThisPlace;
 
-impl<'a, W: Wait, T: Turnstile, G: Ledger, P: Ledger, D: Ledger, E: Ledger, L: Ledger> Listing<
-    RunNode<'a, W, T, G, P, D, E, L>,
-    Standing,
-> for ThisPlace {
+impl<'a, W: Wait, T: Turnstile> Listing<RunNode<'a, W, T>, Standing> for ThisPlace {
     ghost use Rattle.std.specs.Prelude.{[], ◌∷◌};
 
     ghost list = { λ node. node.stands ∷ [] };
@@ -102,23 +95,14 @@ impl Listing<Rest, SeenGates> for RestGates {
     ghost list = { λ rest. rest.shared ∷ [] };
 }
 
-impl<'a, W: Wait, T: Turnstile, G: Ledger, P: Ledger, D: Ledger, E: Ledger, L: Ledger> RunNode<
-    'a,
-    W,
-    T,
-    G,
-    P,
-    D,
-    E,
-    L,
-> {
+impl<'a, W: Wait, T: Turnstile> RunNode<'a, W, T> {
     /// The node of a session that rested there, and goes on over these gates, the same or later ones of the run, by the same passes. It has
     /// counted nothing yet, and stands where the session rested.
     pub fn resumed(
         shared: &'a Shared,
-        node: GateNode<'a, W, T, G, P, D, E, L>,
+        node: GateNode<'a, W, T, SessionCount>,
         rest: Rest,
-    ) -> RunNode<'a, W, T, G, P, D, E, L>
+    ) -> RunNode<'a, W, T>
         requires over { node.shared ≡ shared.now }
         requires later { IsLater rest.shared shared.now }
         requires passes { node.passes ≡ rest.passes }
@@ -143,31 +127,31 @@ impl<'a, W: Wait, T: Turnstile, G: Ledger, P: Ledger, D: Ledger, E: Ledger, L: L
         gates_seen(self.shared)
     }
 
-    /// The share, with what was counted since the node went on, and the passes, for the node by which the session goes on; whether the book had
-    /// no room for some of what was to be counted; and where it stands. It takes no memory, and waits while another has the book.
-    pub fn parts(self) -> (Share<G, P, D, E, L>, Passes, bool, Rest)
-        ensures share { result.2 ≡ false
-            → both self.entry.before result.0 ≡ self.entry.stands.count.counted }
-        ensures passes { result.1 ≡ self.entry.stands.passes }
-        ensures gates { ArePassesOf self.entry.over result.1 }
-        ensures full { result.2 ≡ false → self.entry.stands.count.book_full ≡ false }
-        ensures rest { result.3 ≡ self.entry.stands }
+    /// Takes it apart. It takes no memory, and waits for nobody.
+    pub fn parts(self) -> NodeParts
+        ensures count { on_top self.entry.before result.count ≡ self.entry.stands.count }
+        ensures passes { result.passes ≡ self.entry.stands.passes }
+        ensures gates { ArePassesOf self.entry.over result.passes }
+        ensures rest { result.rest ≡ self.entry.stands }
         ensures later { IsLater self.entry.stands.shared self.entry.over }
     {
-        let at = GhostList::listed::<RunNode<'a, W, T, G, P, D, E, L>, ThisPlace>(&self);
+        let at = GhostList::listed::<RunNode<'a, W, T>, ThisPlace>(&self);
         let RunNode {
             node,
             shared: _,
             at: _,
             rest: _,
         } = self;
-        let (share, passes, is_full) = node.parts();
-        (share, passes, is_full, Rest { at })
+        let (count, passes) = node.into_counter();
+        NodeParts {
+            count,
+            passes,
+            rest: Rest { at },
+        }
     }
 }
 
-impl<'a, W: Wait, T: Turnstile, G: Ledger, P: Ledger, D: Ledger, E: Ledger, L: Ledger> Node
-    for RunNode<'a, W, T, G, P, D, E, L> {
+impl<'a, W: Wait, T: Turnstile> Node for RunNode<'a, W, T> {
     ghost use Rattle.session_pool.specs.Resuming.{RunNodeStep};
 
     ghost step = { RunNodeStep };

@@ -1,6 +1,5 @@
 //! What a run leaves whose workers were joined.
 ghost use Rattle.std.specs.Prelude.{◌≡◌, ◌≤◌, [], length, map, vec_capacity, IfOk, IfErr};
-ghost use Rattle.stats_book.specs.Counting.{zeros};
 ghost use Rattle.gate_node.specs.Merging.{HaveSeenAllOf};
 ghost use Rattle.gate_node.specs.Passes.{ArePassesOf};
 ghost use Rattle.session_pool.specs.Settling.{IsFaultAfterTold, Settles};
@@ -11,91 +10,49 @@ use crate::host::OfGates;
 use crate::served::Served;
 use crate::suspended::Suspended;
 use crate::teller::{Teller, either};
-use crate::tray::{Tray, stocks_of};
+use crate::tray::{Tray, sum_up};
 use gate_node::{Passes, PoolFault};
 use job_pool::Told;
-use stats_book::{Book, Stock, close_stocks};
 use std::alloc::{AllocError, Global};
 use std::io::{Read, Write};
-use std::sync::ledger::Ledger;
 
 /// A place for what each worker of a run leaves, made before the run, so that none of it is lost for want of memory.
-pub(crate) struct Places<
-    R: Read,
-    W: Write,
-    K,
-    G: Ledger,
-    P: Ledger,
-    D: Ledger,
-    E: Ledger,
-    L: Ledger,
-> {
-    pub(crate) stocks: Vec<Stock<G, P, D, E, L>>,
+pub(crate) struct Places<R: Read, W: Write, K> {
     pub(crate) sinks: Vec<K>,
     pub(crate) resting: Vec<Vec<Suspended<R, W>>>,
 }
 
 /// One call at each place where one is let go.
-impl<
-    R: Read + Drop,
-    W: Write + Drop,
-    K: Drop,
-    G: Ledger,
-    P: Ledger,
-    D: Ledger,
-    E: Ledger,
-    L: Ledger,
-> Drop for Places<R, W, K, G, P, D, E, L> {
+impl<R: Read + Drop, W: Write + Drop, K: Drop> Drop for Places<R, W, K> {
     fn drop(self) {
         let Places {
-            stocks: _stocks,
             sinks: _sinks,
             resting: _resting,
         } = self;
     }
 }
 
-impl<R: Read, W: Write, K, G: Ledger, P: Ledger, D: Ledger, E: Ledger, L: Ledger> Places<
-    R,
-    W,
-    K,
-    G,
-    P,
-    D,
-    E,
-    L,
-> {
+impl<R: Read, W: Write, K> Places<R, W, K> {
     /// The lists.
-    fn into_lists(self) -> (Vec<Stock<G, P, D, E, L>>, Vec<K>, Vec<Vec<Suspended<R, W>>>)
-        ensures { (result.0 ≡ self.stocks) × (result.1 ≡ self.sinks) × (result.2 ≡ self.resting) }
+    fn into_lists(self) -> (Vec<K>, Vec<Vec<Suspended<R, W>>>)
+        ensures { (result.0 ≡ self.sinks) × (result.1 ≡ self.resting) }
     {
-        let Places {
-            stocks,
-            sinks,
-            resting,
-        } = self;
-        (stocks, sinks, resting)
+        let Places { sinks, resting } = self;
+        (sinks, resting)
     }
 }
 
 /// Places for so many workers.
-pub(crate) fn new_places<
-    R: Read,
-    W: Write,
-    K: Drop,
-    G: Ledger,
-    P: Ledger,
-    D: Ledger,
-    E: Ledger,
-    L: Ledger,
->(alloc: Global, workers: usize) -> Result<Places<R, W, K, G, P, D, E, L>, AllocError>
-    ensures empty { IfOk result (λ places. (places.stocks.items ≡ [])
-        × (places.sinks.items ≡ []) × (places.resting.items ≡ [])) }
-    ensures room { IfOk result (λ places. (workers ≤ vec_capacity places.stocks)
-        × (workers ≤ vec_capacity places.sinks) × (workers ≤ vec_capacity places.resting)) }
+pub(crate) fn new_places<R: Read, W: Write, K: Drop>(
+    alloc: Global,
+    workers: usize,
+) -> Result<Places<R, W, K>, AllocError>
+    ensures empty { IfOk result (λ places.
+        (places.sinks.items ≡ []) × (places.resting.items ≡ [])) }
+    ensures room { IfOk result (λ places. (workers ≤ vec_capacity places.sinks)
+        × (workers ≤ vec_capacity places.resting)) }
 {
     Ok(Places {
-        stocks: Vec::with_capacity(alloc, workers)?,
         sinks: Vec::with_capacity(alloc, workers)?,
         resting: Vec::with_capacity(alloc, workers)?,
     })
@@ -141,12 +98,10 @@ fn take_apart<H: OfGates, R: Read + Drop, W: Write + Drop, K: EndSink<R, W> + Dr
     }
 }
 
-/// What a run leaves whose workers were joined: the book is closed by all its stocks.
-pub(crate) fn settle<H, R, W, K, G, P, D, E, L>(
-    book: Book<G, P, D, E, L>,
-    rest: Stock<G, P, D, E, L>,
-    places: Places<R, W, K, G, P, D, E, L>,
-    told: Told<Tray<G, P, D, E, L>, Teller<H, R, W, K>>,
+/// What a run leaves whose workers were joined.
+pub(crate) fn settle<H, R, W, K>(
+    places: Places<R, W, K>,
+    told: Told<Tray, Teller<H, R, W, K>>,
     seen: &mut Passes,
 ) -> Result<Served<R, W, K>, PoolFault>
 where
@@ -154,21 +109,14 @@ where
     R: Read + Drop,
     W: Write + Drop,
     K: EndSink<R, W> + Drop,
-    G: Ledger,
-    P: Ledger,
-    D: Ledger,
-    E: Ledger,
-    L: Ledger,
-    requires rest { rest ≡ zeros }
     requires passes { ArePassesOf H.gates seen.old }
-    requires empty { (places.stocks.items ≡ [])
-        × (places.sinks.items ≡ []) × (places.resting.items ≡ []) }
-    requires stocks { length told.workers.items ≤ vec_capacity places.stocks }
+    requires empty { (places.sinks.items ≡ []) × (places.resting.items ≡ []) }
     requires sinks { length told.sinks.items ≤ vec_capacity places.sinks }
     requires resting { length told.sinks.items ≤ vec_capacity places.resting }
     ensures served { IfOk result (Settles K.told H.gates
         told.workers.items told.sinks.items told.given told.refused seen.new) }
-    ensures fault { IfErr result (IsFaultAfterTold K.told H.gates told.sinks.items seen.new) }
+    ensures fault { IfErr result (IsFaultAfterTold K.told H.gates
+        told.workers.items told.sinks.items seen.new) }
     ensures more { HaveSeenAllOf seen.new seen.old }
     ensures passes { ArePassesOf H.gates seen.new }
 {
@@ -178,11 +126,9 @@ where
         given,
         refused,
     } = told;
-    let (stocks, sinks, resting) = places.into_lists();
+    let (sinks, resting) = places.into_lists();
     let apart = take_apart(sinks, resting, tellers, seen);
-    let Some(totals) = close_stocks(book, rest, stocks_of(stocks, workers)) else {
-        return Err(PoolFault::NoMemory);
-    };
+    let sum = sum_up(workers);
     let Apart {
         sinks,
         resting,
@@ -191,6 +137,9 @@ where
     if is_book_full {
         return Err(PoolFault::BookFull);
     }
+    let Some(totals) = sum else {
+        return Err(PoolFault::BookFull);
+    };
     Ok(Served {
         totals,
         accepted: given as u64,

@@ -9,34 +9,22 @@ ghost use Rattle.session_pool.specs.Suspending.{SuspendedView, StaysOver};
 
 use crate::left::Left;
 use crate::rest::Began;
-use crate::run_node::RunNode;
+use crate::run_node::{NodeParts, RunNode};
 use crate::suspended::Suspended;
 use gate_node::Turnstile;
 use job_pool::Moved;
 use node_session::{Course, Scratch};
-use stats_book::Share;
+use stats_book::SessionCount;
 use std::alloc::Global;
 use std::io::{Read, Write};
 use std::marker::Model;
 use std::sync::Wait;
-use std::sync::ledger::Ledger;
 
 /// A session that goes on over the gates of a run, and may be left at any time.
 ///
 /// Contracts see its node, what it does next and has counted, its streams, and where it began; and that it has come so far since then.
-pub struct Stay<
-    'a,
-    X: Wait,
-    T: Turnstile,
-    R: Read,
-    W: Write,
-    G: Ledger,
-    P: Ledger,
-    D: Ledger,
-    E: Ledger,
-    L: Ledger,
-> {
-    pub(crate) node: RunNode<'a, X, T, G, P, D, E, L>,
+pub struct Stay<'a, X: Wait, T: Turnstile, R: Read, W: Write> {
+    pub(crate) node: RunNode<'a, X, T>,
     pub(crate) course: Course,
     pub(crate) reader: R,
     pub(crate) writer: W,
@@ -44,18 +32,7 @@ pub struct Stay<
 }
 
 /// One call at each place where one is let go.
-impl<
-    'a,
-    X: Wait,
-    T: Turnstile,
-    R: Read + Drop,
-    W: Write + Drop,
-    G: Ledger,
-    P: Ledger,
-    D: Ledger,
-    E: Ledger,
-    L: Ledger,
-> Drop for Stay<'a, X, T, R, W, G, P, D, E, L> {
+impl<'a, X: Wait, T: Turnstile, R: Read + Drop, W: Write + Drop> Drop for Stay<'a, X, T, R, W> {
     fn drop(self) {
         let Stay {
             node: _node,
@@ -67,18 +44,7 @@ impl<
     }
 }
 
-impl<
-    'a,
-    X: Wait,
-    T: Turnstile,
-    R: Read,
-    W: Write,
-    G: Ledger,
-    P: Ledger,
-    D: Ledger,
-    E: Ledger,
-    L: Ledger,
-> Model for Stay<'a, X, T, R, W, G, P, D, E, L> {
+impl<'a, X: Wait, T: Turnstile, R: Read, W: Write> Model for Stay<'a, X, T, R, W> {
     ghost use Rattle.session_pool.specs.Suspending.{StayView, IsOpen};
 
     ghost Value = { StayView R W };
@@ -102,18 +68,7 @@ impl<
     }) };
 }
 
-impl<'a, X, T, R, W, G, P, D, E, L> Stay<'a, X, T, R, W, G, P, D, E, L>
-where
-    X: Wait,
-    T: Turnstile,
-    R: Read,
-    W: Write,
-    G: Ledger,
-    P: Ledger,
-    D: Ledger,
-    E: Ledger,
-    L: Ledger,
-{
+impl<'a, X: Wait, T: Turnstile, R: Read, W: Write> Stay<'a, X, T, R, W> {
     /// What its requests are read from.
     pub fn reader(&self) -> &R
         ensures { result.now ≡ self.now.reader }
@@ -156,7 +111,7 @@ where
             → StaysOver shared session self.old → StaysOver shared session self.new }
         ensures over { IsOver self.new.stage }
     {
-        self.course.stop::<RunNode<'a, X, T, G, P, D, E, L>>();
+        self.course.stop::<RunNode<'a, X, T>>();
     }
 
     /// Takes one step of it: it answers one message, or calls one stream once. Where a stream would have to wait, and may not, that counts as a
@@ -183,14 +138,14 @@ where
         Moved::Over
     }
 
-    /// Leaves it as it is: it is over, or it rests. What it has counted since it went on is in the share; and whether the book had no room for some
-    /// of that. The room that was lent to one that is over goes back.
-    pub fn leave(self, scratch: &mut Scratch) -> (Left<R, W>, Share<G, P, D, E, L>, bool)
+    /// Leaves it as it is: it is over, or it rests; with what it has counted since it went on. The room that was lent to one that is over goes
+    /// back.
+    pub fn leave(self, scratch: &mut Scratch) -> (Left<R, W>, SessionCount)
         ensures over { IsOver self.entry.stage → IsEnd result.0 }
         ensures left { (shared : Gates) (session : SuspendedView R W)
             → StaysOver shared session self.entry
             → LeavesSession R.remaining W.contents shared RunStep session
-            result.1 result.2 result.0 }
+            result.1.counted result.1.book_full result.0 }
     {
         let Stay {
             node,
@@ -200,7 +155,12 @@ where
             origin,
         } = self;
         let over = node.over();
-        let (share, passes, is_full, rest) = node.parts();
+        let parts = node.parts();
+        let NodeParts {
+            count,
+            passes,
+            rest,
+        } = parts;
         let session = Suspended {
             course,
             reader,
@@ -210,6 +170,6 @@ where
             origin,
             over,
         };
-        (session.settle(scratch), share, is_full)
+        (session.settle(scratch), count)
     }
 }

@@ -11,12 +11,11 @@ use crate::stay::Stay;
 use gate_node::{GateNode, Passes, Shared, Turnstile};
 use ghost_state::{GhostList, Listing};
 use node_session::Course;
-use stats_book::{Book, Share};
+use stats_book::SessionCount;
 use std::alloc::Global;
 use std::io::{Read, Write};
 use std::marker::Model;
 use std::sync::Wait;
-use std::sync::ledger::Ledger;
 
 /// A session that rests between two of its steps, with its streams and its passes: one that has begun, or is to. Nobody serves it, and
 /// partitions may be diverted until it goes on.
@@ -179,28 +178,16 @@ impl<R: Read, W: Write> Suspended<R, W> {
         (reader, writer)
     }
 
-    /// It goes on over these gates, those that it rested over or what they became, by a share that has counted nothing, with what its worker keeps, where
-    /// that does. Each of its calls passes the turnstile.
-    pub(crate) fn go_on<
-        'a,
-        X: Wait,
-        T: Turnstile,
-        G: Ledger,
-        P: Ledger,
-        D: Ledger,
-        E: Ledger,
-        L: Ledger,
-    >(
+    /// It goes on over these gates, those that it rested over or what they became, and has counted nothing of them yet, with what its worker keeps,
+    /// where that does. Each of its calls passes the turnstile.
+    pub(crate) fn go_on<'a, X: Wait, T: Turnstile>(
         self,
         rt: &'a X,
         shared: &'a Shared,
-        book: &'a Book<G, P, D, E, L>,
-        share: Share<G, P, D, E, L>,
         turnstile: &'a T,
         kept: Option<&'a KeptByWorker<'a>>,
-    ) -> Stay<'a, X, T, R, W, G, P, D, E, L>
-        requires unused { share ≡ zeros }
-        requires later { CanGoOn shared.now self }
+    ) -> Stay<'a, X, T, R, W>
+        requires { CanGoOn shared.now self }
         ensures { StaysOver shared.now self result }
     {
         let Suspended {
@@ -213,7 +200,7 @@ impl<R: Read, W: Write> Suspended<R, W> {
             over: _,
         } = self;
         let node = kept_by(
-            GateNode::new(rt, shared, book, share, passes, turnstile),
+            GateNode::counting_by(rt, shared, SessionCount::new(), passes, turnstile),
             kept,
         );
         Stay {

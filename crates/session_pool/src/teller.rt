@@ -23,7 +23,6 @@ use std::io::{Read, Write};
 use std::marker::{Model, PhantomData};
 use std::snapshot::Snapshot;
 use std::sync::Wait;
-use std::sync::ledger::Ledger;
 
 /// Whether one of both holds.
 pub(crate) fn either(first: bool, second: bool) -> bool
@@ -159,8 +158,7 @@ fn tell_end<R: Read, W: Write, K: EndSink<R, W>>(
     sink.tell(shared, number, origin, end);
 }
 
-impl<'a, H, X, T, Q, R, W, G, P, D, E, L, K> Sink<Host<'a, H, X, T, Q, R, W, G, P, D, E, L>>
-    for Teller<H, R, W, K>
+impl<'a, H, X, T, Q, R, W, K> Sink<Host<'a, H, X, T, Q, R, W>> for Teller<H, R, W, K>
 where
     H: OfGates + Sync,
     X: Wait + Sync,
@@ -168,11 +166,6 @@ where
     Q: Pause + Sync,
     R: Read + Drop + Send + Sync,
     W: Write + Drop + Send + Sync,
-    G: Ledger,
-    P: Ledger,
-    D: Ledger,
-    E: Ledger,
-    L: Ledger,
     K: EndSink<R, W>,
 {
     ghost told = { λ teller. teller.told };
@@ -185,7 +178,7 @@ where
 
     fn tell(
         &mut self,
-        service: &Host<'a, H, X, T, Q, R, W, G, P, D, E, L>,
+        service: &Host<'a, H, X, T, Q, R, W>,
         number: usize,
         job: Snapshot<Suspended<R, W>>,
         end: LeftSession<R, W>,
@@ -226,7 +219,7 @@ where
 
     fn refuse(
         &mut self,
-        _service: &Host<'a, H, X, T, Q, R, W, G, P, D, E, L>,
+        _service: &Host<'a, H, X, T, Q, R, W>,
         number: usize,
         job: Suspended<R, W>,
     ) {

@@ -9,7 +9,6 @@ use job_pool::{Moved, Readiness, StreamReadiness, Turn};
 use std::alloc::Global;
 use std::io::{Read, Write};
 use std::sync::Wait;
-use std::sync::ledger::Ledger;
 
 /// What a worker waits with, which is shown the streams of a session; and the worker's reserve, which its own thread fills once all threads were
 /// started, and again behind a wait where it was given up, one worker behind the other: an allocator may take much more for a thread for a moment
@@ -64,8 +63,7 @@ impl<'a, Y> Watch<'a, Y> {
     }
 }
 
-impl<'a, Y, H, X, T, Q, I, O, G, P, D, E, R> Readiness<Host<'a, H, X, T, Q, I, O, G, P, D, E, R>>
-    for Watch<'a, Y>
+impl<'a, Y, H, X, T, Q, I, O> Readiness<Host<'a, H, X, T, Q, I, O>> for Watch<'a, Y>
 where
     Y: StreamReadiness<I, O>,
     H: OfGates + Sync,
@@ -74,17 +72,12 @@ where
     Q: Pause + Sync,
     I: Read + Drop + Send + Sync,
     O: Write + Drop + Send + Sync,
-    G: Ledger,
-    P: Ledger,
-    D: Ledger,
-    E: Ledger,
-    R: Ledger,
 {
     fn takes(&mut self, is_idle: bool) -> bool {
         self.streams.takes(is_idle)
     }
 
-    fn begin(&mut self, slot: usize, opened: &Stay<'a, X, T, I, O, G, P, D, E, R>) {
+    fn begin(&mut self, slot: usize, opened: &Stay<'a, X, T, I, O>) {
         self.streams.begin(slot, opened.reader(), opened.writer());
     }
 

@@ -2,9 +2,10 @@
 pub mod Keeping
 pub mod Closing
 pub mod Ends
-pub mod Faults
 pub mod Summing
+pub mod Together
 pub mod Histories
 pub mod InHistories
 pub mod Runs
+pub mod Faults
 pub mod LegalRuns

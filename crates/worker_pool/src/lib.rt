@@ -14,22 +14,20 @@
 //! them take. For sessions of a source that may never end, and for such as are to rest, there is
 //! `serve` of `session_pool`, which keeps no end.
 //!
-//! What it costs: what a run of `job_pool` costs, the book's lock once for each session, and a
-//! thread for each worker. A tally is one look under a right to read, and a comparison of two
+//! What it costs: what a run of `job_pool` costs, and a thread for each worker. A tally is one look under a right to read, and a comparison of two
 //! numbers for each end.
 //!
 //! How it is built: a session in steps ([`Sitting`]) is a service of `job_pool`. It has a node of
-//! its own, over the job's passes and a share of the book that has counted nothing, and when it is
-//! over the worker takes the share back. So what a step changes is that session's alone, and a
-//! worker may have many open. A share has no bytes; all shares together say what the book's numbers
-//! are. After the workers were joined a new pass of each gate looks, and of two passes of a gate
+//! its own, over the job's passes, which counts by itself, and when it is over the worker adds what
+//! it has counted. So what a step changes is that session's alone, and a worker may have many open.
+//! After the workers were joined a new pass of each gate looks, and of two passes of a gate
 //! the one behind has seen a beginning of what the other has: so what that look shows is a history
 //! of which every session has seen a beginning.
 //!
 //! ```text
-//! jobs a, b, c; two workers                 each session begins with a share that has counted nothing
-//! worker 1  serves a, c                     their shares: 1 put, 1 put and 1 get
-//! worker 2  serves b                        its share: 1 put
+//! jobs a, b, c; two workers                 each session begins with nothing counted
+//! worker 1  serves a, c                     it has counted: 1 put, then 1 put and 1 get more
+//! worker 2  serves b                        it has counted: 1 put
 //! Pool::run returns                         ends of a, b, c; 3 puts, 1 get; the tally of each vnode: 3 writes in all
 //! ```
 //!

@@ -1,31 +1,25 @@
 //! A run of the pool that keeps all ends.
 ghost use Rattle.std.specs.Prelude.{◌≡◌, ◌≤◌, length, map, IfOk, IfErr};
 ghost use Rattle.job_pool.specs.Giving.{GivesOnly};
-ghost use Rattle.stats_book.specs.Counting.{sum_of, zeros};
-ghost use Rattle.stats_book.specs.Holdings.{AllAre};
+ghost use Rattle.stats_book.specs.Counting.{sum_of};
 ghost use Rattle.gate_node.specs.OneHistory.{ShareHistories};
 ghost use Rattle.worker_pool.specs.Serving.{IsForGates, WereOfRun, counted_whole, end_passes};
 ghost use Rattle.worker_pool.specs.Run.{ServesSource};
-ghost use Rattle.worker_pool.specs.Leaving.{LeavesSource, IsFaultAfter, pool_fault};
+ghost use Rattle.worker_pool.specs.Leaving.{LeavesSource, IsFaultAfter, IsFaultOf, pool_fault};
 
 use crate::closed::Closed;
 use crate::job::{End, EndRead, EndWrite, Job};
 use crate::server::{ServedJob, Server};
 use crate::stream_readiness::{Shown, new_rounds};
-use crate::tray::{Tray, stocks_of, trays_of};
+use crate::tray::{Tray, new_trays, sum_up};
 use gate_node::{PoolFault, Shared, Turnstile, tallies_of};
 use job_pool::{
     Bell, Finished, Jobs, Post, Rounds, RunFault, StreamReadiness, Wake, Wakes, run_with,
 };
-use stats_book::{Blanks, Book, Stock, close_stocks, open_stocks};
 use std::alloc::Global;
-use std::marker::{Brand, PhantomData};
+use std::marker::PhantomData;
 use std::sync::Wait;
-use std::sync::ledger::Ledger;
 use std::thread::Threads;
-
-/// How many shares the book of a run has: more than there are sessions.
-const SHARES: u64 = 18_446_744_073_709_551_615;
 
 /// Workers that serve connections over the gates of a run.
 pub struct Pool;
@@ -47,7 +41,7 @@ fn whole_ends<I: Drop, O: Drop>(
     served: Vec<ServedJob<I, O>>,
 ) -> Result<Vec<End<I, O>>, PoolFault>
     ensures ends { IfOk result (λ ends. map counted_whole ends.items ≡ served.items) }
-    ensures fault { IfErr result (IsFaultAfter served.items) }
+    ensures fault { IfErr result (IsFaultOf served.items) }
 {
     let mut ends = Vec::new(alloc);
     for one in served {
@@ -61,25 +55,17 @@ fn whole_ends<I: Drop, O: Drop>(
     Ok(ends)
 }
 
-/// What a run leaves whose workers were joined: the book is closed by all its stocks, and each vnode looked at.
-fn finish<X, I, O, G, P, D, E, R>(
+/// What a run leaves whose workers were joined: what they counted in all, and a look at each vnode.
+fn finish<X, I, O>(
     rt: &X,
     alloc: Global,
     shared: &Shared,
-    book: Book<G, P, D, E, R>,
-    rest: Stock<G, P, D, E, R>,
-    finished: Finished<ServedJob<I, O>, Tray<G, P, D, E, R>>,
+    finished: Finished<ServedJob<I, O>, Tray>,
 ) -> Result<Closed<I, O>, PoolFault>
 where
     X: Wait,
     I: Drop,
     O: Drop,
-    G: Ledger,
-    P: Ledger,
-    D: Ledger,
-    E: Ledger,
-    R: Ledger,
-    requires rest { rest ≡ zeros }
     requires passes { WereOfRun shared.now finished.ends.items }
     ensures ends { IfOk result (λ closed.
         map counted_whole closed.ends.items ≡ finished.ends.items) }
@@ -87,21 +73,18 @@ where
         ShareHistories end_passes shared.now.gates closed.ends.items
         closed.tallies.items closed.count_all) }
     ensures totals { IfOk result (λ closed. closed.totals ≡ sum_of finished.workers.items) }
-    ensures fault { IfErr result (IsFaultAfter finished.ends.items) }
+    ensures fault { IfErr result (IsFaultAfter finished.ends.items finished.workers.items) }
 {
     let Finished {
         ends: served,
         workers: trays,
     } = finished;
-    let Ok(stocks) = stocks_of(alloc, trays) else {
-        return Err(PoolFault::NoMemory);
-    };
-    let Some(totals) = close_stocks(book, rest, stocks) else {
-        return Err(PoolFault::NoMemory);
-    };
     let ends = match whole_ends(alloc, served) {
         Ok(ends) => ends,
         Err(fault) => return Err(fault),
+    };
+    let Some(totals) = sum_up(trays) else {
+        return Err(PoolFault::BookFull);
     };
     match tallies_of(rt, alloc, shared, ends.as_slice()) {
         Ok(found) => Ok(Closed {
@@ -114,8 +97,8 @@ where
     }
 }
 
-/// A run by a book of these ledgers.
-fn run_by<X, J, I, O, T, Y, B, G, P, D, E, R>(
+/// A run by workers at these posts.
+fn run_at_posts<X, J, I, O, T, Y, B>(
     rt: &X,
     alloc: Global,
     shared: &Shared,
@@ -124,7 +107,6 @@ fn run_by<X, J, I, O, T, Y, B, G, P, D, E, R>(
     posts: Vec<Post<Shown<Y>, B>>,
     wakes: Wakes,
     turnstile: &T,
-    blanks: Blanks,
 ) -> Result<Closed<I, O>, PoolFault>
 where
     X: Threads + Wait + Sync,
@@ -134,42 +116,26 @@ where
     T: Turnstile + Sync,
     Y: StreamReadiness<I, O> + Drop + Send,
     B: Bell + Drop,
-    G: Ledger + Send + Sync,
-    P: Ledger + Send + Sync,
-    D: Ledger + Send + Sync,
-    E: Ledger + Send + Sync,
-    R: Ledger + Send + Sync,
     requires workers { 1 ≤ workers }
     requires posts { length posts.items ≡ workers }
     requires jobs { GivesOnly J.gives (IsForGates shared.now) jobs.old }
-    requires gets { (blanks.gets.name ≡ G.name) × (blanks.gets.parts ≡ G.parts) }
-    requires puts { (blanks.puts.name ≡ P.name) × (blanks.puts.parts ≡ P.parts) }
-    requires deletes { (blanks.deletes.name ≡ D.name) × (blanks.deletes.parts ≡ D.parts) }
-    requires refusals { (blanks.refusals.name ≡ E.name) × (blanks.refusals.parts ≡ E.parts) }
-    requires reaps { (blanks.reaps.name ≡ R.name) × (blanks.reaps.parts ≡ R.parts) }
-    requires parts { AllAre SHARES G.parts P.parts D.parts E.parts R.parts }
     ensures served { IfOk result (λ closed.
         ServesSource I.remaining O.contents shared.now J.gives workers
         jobs.old closed jobs.new) }
     ensures fault { IfErr result (λ fault.
         LeavesSource J.gives I.remaining O.contents shared.now fault jobs.old jobs.new) }
 {
-    let Ok((book, rest, stocks)) = open_stocks::<G, P, D, E, R>(alloc, workers, SHARES, blanks)
-    else {
-        return Err(PoolFault::NoMemory);
-    };
-    let Ok(trays) = trays_of(alloc, stocks) else {
+    let Ok(trays) = new_trays(alloc, workers) else {
         return Err(PoolFault::NoMemory);
     };
     let server = Server {
         rt,
         shared,
-        book: &book,
         turnstile,
         jobs: PhantomData,
     };
     match run_with(rt, alloc, &server, jobs, trays, posts, wakes) {
-        Ok(finished) => finish(rt, alloc, shared, book, rest, finished),
+        Ok(finished) => finish(rt, alloc, shared, finished),
         Err(fault) => Err(fault_of(fault)),
     }
 }
@@ -198,7 +164,8 @@ impl Pool {
     ///   some jobs, or all of them.
     /// - `NoThread`: the system refused a thread. No job was taken from the source.
     /// - `JobsFailed`: the source gave some jobs and then a fault. The jobs that it gave were served.
-    /// - `BookFull`: all jobs were served, and in one of their sessions a total would have passed 18,446,744,073,709,551,615.
+    /// - `BookFull`: all jobs were served, and a total would have passed 18,446,744,073,709,551,615: that of a worker, at the end of one of its
+    ///   sessions, or the sum over the workers.
     ///
     /// It waits for the workers, and they for jobs and for one another. It returns if each call of the source, of the readers and the
     /// writers, and of the turnstile does.
@@ -227,7 +194,7 @@ impl Pool {
         let Ok(posts) = new_rounds(alloc, workers) else {
             return Err(PoolFault::NoMemory);
         };
-        run_by::<X, J, I, O, T, Rounds, Wake, Brand, Brand, Brand, Brand, Brand>(
+        run_at_posts(
             rt,
             alloc,
             shared,
@@ -236,7 +203,6 @@ impl Pool {
             posts,
             Wakes::All,
             turnstile,
-            Blanks::of(SHARES),
         )
     }
 
@@ -270,7 +236,7 @@ impl Pool {
         ensures fault { IfErr result (λ fault.
             LeavesSource J.gives I.remaining O.contents shared.now fault jobs.old jobs.new) }
     {
-        run_by::<X, J, I, O, T, Y, B, Brand, Brand, Brand, Brand, Brand>(
+        run_at_posts(
             rt,
             alloc,
             shared,
@@ -279,7 +245,6 @@ impl Pool {
             posts,
             Wakes::LeastLoad,
             turnstile,
-            Blanks::of(SHARES),
         )
     }
 }

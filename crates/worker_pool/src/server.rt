@@ -1,19 +1,16 @@
 //! A worker's service: sessions over the gates, in steps, each by a node of its own.
-ghost use Rattle.std.specs.Prelude.{◌≡◌, true, false};
-ghost use Rattle.gate_node.specs.Passes.{ArePassesOf};
 
 use crate::job::{End, EndRead, EndWrite, Job};
 use crate::sitting::Sitting;
 use crate::tray::Tray;
-use gate_node::{GateNode, Passes, Shared, Turnstile};
+use gate_node::{GateNode, Shared, Turnstile};
 use job_pool::{Moved, Service};
-use stats_book::{Book, Share};
+use stats_book::SessionCount;
 use std::alloc::Global;
 use std::marker::PhantomData;
 use std::sync::Wait;
-use std::sync::ledger::Ledger;
 
-/// An end, and whether the book was full at one of its answers.
+/// An end, and whether its worker had no room for all that there was to be counted in it.
 #[derive(Drop)]
 pub struct ServedJob<I, O> {
     pub end: End<I, O>,
@@ -22,45 +19,27 @@ pub struct ServedJob<I, O> {
 
 /// Serves the jobs of a run. All workers share it.
 #[derive(Drop)]
-pub struct Server<'a, X, T, I, O, G: Ledger, P: Ledger, D: Ledger, E: Ledger, R: Ledger> {
+pub struct Server<'a, X, T, I, O> {
     pub(crate) rt: &'a X,
     pub(crate) shared: &'a Shared,
-    pub(crate) book: &'a Book<G, P, D, E, R>,
     pub(crate) turnstile: &'a T,
     pub(crate) jobs: PhantomData<Job<I, O>>,
 }
 
-/// The share and the passes of a node whose session is over, and whether the book had no room for some of what it was to count.
-fn parts_of<X: Wait, T: Turnstile, G: Ledger, P: Ledger, D: Ledger, E: Ledger, R: Ledger>(
-    node: GateNode<'_, X, T, G, P, D, E, R>,
-) -> (Share<G, P, D, E, R>, Passes, bool)
-    ensures share { result.2 ≡ false → result.0 ≡ node.entry.count.counted }
-    ensures passes { result.1 ≡ node.entry.passes }
-    ensures gates { ArePassesOf node.entry.shared result.1 }
-    ensures full { result.2 ≡ false → node.entry.count.book_full ≡ false }
-{
-    node.parts()
-}
-
-impl<'a, X, T, I, O, G, P, D, E, R> Service for Server<'a, X, T, I, O, G, P, D, E, R>
+impl<'a, X, T, I, O> Service for Server<'a, X, T, I, O>
 where
     X: Wait + Sync,
     T: Turnstile + Sync,
     I: EndRead + Drop + Send + Sync,
     O: EndWrite + Drop + Send + Sync,
-    G: Ledger,
-    P: Ledger,
-    D: Ledger,
-    E: Ledger,
-    R: Ledger,
 {
     type Job = Job<I, O>;
 
     type End = ServedJob<I, O>;
 
-    type Worker = Tray<G, P, D, E, R>;
+    type Worker = Tray;
 
-    type Open = Sitting<GateNode<'a, X, T, G, P, D, E, R>, I, O>;
+    type Open = Sitting<GateNode<'a, X, T, SessionCount>, I, O>;
 
     ghost use Rattle.node_session.specs.Courses.{IsOver};
     ghost use Rattle.worker_pool.specs.Serving.{IsForGates, CountsInSession, StandsOver};
@@ -77,22 +56,18 @@ where
     fn open(
         &self,
         alloc: Global,
-        worker: &mut Tray<G, P, D, E, R>,
+        _worker: &mut Tray,
         job: Job<I, O>,
-    ) -> Result<Sitting<GateNode<'a, X, T, G, P, D, E, R>, I, O>, Job<I, O>> {
-        let Some(share) = worker.take() else {
-            return Err(job);
-        };
+    ) -> Result<Sitting<GateNode<'a, X, T, SessionCount>, I, O>, Job<I, O>> {
         let Job {
             reader,
             writer,
             passes,
         } = job;
-        let node = GateNode::new(
+        let node = GateNode::counting_by(
             self.rt,
             self.shared,
-            self.book,
-            share,
+            SessionCount::new(),
             passes,
             self.turnstile,
         );
@@ -103,8 +78,8 @@ where
     fn step(
         &self,
         alloc: Global,
-        worker: &mut Tray<G, P, D, E, R>,
-        opened: &mut Sitting<GateNode<'a, X, T, G, P, D, E, R>, I, O>,
+        worker: &mut Tray,
+        opened: &mut Sitting<GateNode<'a, X, T, SessionCount>, I, O>,
         may_wait: bool,
     ) -> Moved {
         opened.step(alloc, &mut worker.scratch, may_wait)
@@ -112,20 +87,23 @@ where
 
     fn close(
         &self,
-        worker: &mut Tray<G, P, D, E, R>,
-        opened: Sitting<GateNode<'a, X, T, G, P, D, E, R>, I, O>,
+        worker: &mut Tray,
+        opened: Sitting<GateNode<'a, X, T, SessionCount>, I, O>,
     ) -> ServedJob<I, O> {
         let (result, mut reader, mut writer, node) = opened.parts(&mut worker.scratch);
         reader.ended();
         writer.ended();
-        let (share, passes, book_full) = parts_of(node);
-        worker.give_back(share);
+        let (count, passes) = node.into_counter();
+        let is_added = worker.add(count);
         let end = End {
             result,
             reader,
             writer,
             passes,
         };
-        ServedJob { end, book_full }
+        ServedJob {
+            end,
+            book_full: !is_added,
+        }
     }
 }

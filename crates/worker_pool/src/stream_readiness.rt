@@ -6,9 +6,9 @@ use crate::server::Server;
 use crate::sitting::Sitting;
 use gate_node::{GateNode, Turnstile};
 use job_pool::{Moved, Post, Readiness, Rounds, StreamReadiness, Turn, Wake};
+use stats_book::SessionCount;
 use std::alloc::{AllocError, Global};
 use std::sync::Wait;
-use std::sync::ledger::Ledger;
 
 /// What a worker of [`Pool::run_with`](crate::Pool::run_with) waits with: this, which is shown the streams of each session.
 #[derive(Drop)]
@@ -16,24 +16,19 @@ pub struct Shown<Y> {
     pub streams: Y,
 }
 
-impl<'a, Y, X, T, I, O, G, P, D, E, R> Readiness<Server<'a, X, T, I, O, G, P, D, E, R>> for Shown<Y>
+impl<'a, Y, X, T, I, O> Readiness<Server<'a, X, T, I, O>> for Shown<Y>
 where
     Y: StreamReadiness<I, O>,
     X: Wait + Sync,
     T: Turnstile + Sync,
     I: EndRead + Drop + Send + Sync,
     O: EndWrite + Drop + Send + Sync,
-    G: Ledger,
-    P: Ledger,
-    D: Ledger,
-    E: Ledger,
-    R: Ledger,
 {
     fn takes(&mut self, is_idle: bool) -> bool {
         self.streams.takes(is_idle)
     }
 
-    fn begin(&mut self, slot: usize, opened: &Sitting<GateNode<'a, X, T, G, P, D, E, R>, I, O>) {
+    fn begin(&mut self, slot: usize, opened: &Sitting<GateNode<'a, X, T, SessionCount>, I, O>) {
         self.streams.begin(slot, opened.reader(), opened.writer());
     }
 

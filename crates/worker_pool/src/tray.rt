@@ -1,98 +1,92 @@
 //! What a worker has beside its open sessions.
-ghost use Rattle.std.specs.Prelude.{◌≡◌, IfOk, IfSome};
-ghost use Rattle.stats_book.specs.Counting.{both, zeros};
+ghost use Rattle.std.specs.Prelude.{◌≡◌, true, false, replicate, IfOk, IfSome, IfNone};
+ghost use Rattle.stats_book.specs.Counting.{ArePastFull, both, sum_of, zeros};
 
 use node_session::Scratch;
-use stats_book::{Share, Stock};
+use stats_book::{SessionCount, Totals};
 use std::alloc::{AllocError, Global};
 use std::marker::Model;
-use std::sync::ledger::Ledger;
 
-/// The shares of a book that a worker's sessions take and give back, and what is lent to each of their steps.
+/// What a worker has counted, and what is lent to each step of its sessions.
 ///
-/// Contracts see what the shares that came back have counted.
-pub struct Tray<G: Ledger, P: Ledger, D: Ledger, E: Ledger, R: Ledger> {
-    stock: Stock<G, P, D, E, R>,
+/// Contracts see what it has counted.
+pub struct Tray {
+    totals: Totals,
     pub(crate) scratch: Scratch,
 }
 
 /// One call at each place where one is let go.
-impl<G: Ledger, P: Ledger, D: Ledger, E: Ledger, R: Ledger> Drop for Tray<G, P, D, E, R> {
+impl Drop for Tray {
     fn drop(self) {
         let Tray {
-            stock: _stock,
+            totals: _totals,
             scratch: _scratch,
         } = self;
     }
 }
 
-impl<G: Ledger, P: Ledger, D: Ledger, E: Ledger, R: Ledger> Model for Tray<G, P, D, E, R> {
+impl Model for Tray {
     ghost use Rattle.stats_book.specs.declared.totals.Totals.{Totals};
 
     ghost Value = { Totals };
 
-    ghost view = { λ t. t.stock };
+    ghost view = { λ t. t.totals };
 }
 
-impl<G: Ledger, P: Ledger, D: Ledger, E: Ledger, R: Ledger> Tray<G, P, D, E, R> {
-    /// Of a worker that has served nothing, with this stock. It makes the room that the worker lends to its sessions, once: a
-    /// session that has a message in part keeps it. Where there is no memory for it, each session takes its own.
-    fn new(alloc: Global, stock: Stock<G, P, D, E, R>) -> Tray<G, P, D, E, R>
-        ensures { result ≡ stock }
+impl Tray {
+    /// Of a worker that has served nothing. It makes the room that the worker lends to its sessions, once: a session that has a message in part keeps
+    /// it. Where there is no memory for it, each session takes its own.
+    fn new(alloc: Global) -> Tray
+        ensures { result ≡ zeros }
     {
         let mut scratch = Scratch::new(alloc);
         let _is_made = scratch.make_room();
-        Tray { stock, scratch }
+        Tray {
+            totals: Totals::zeros(),
+            scratch,
+        }
     }
 
-    /// A share for a session, which has counted nothing. None where all were taken.
-    pub(crate) fn take(&mut self) -> Option<Share<G, P, D, E, R>>
-        ensures share { IfSome result (λ share. share ≡ zeros) }
-        ensures same { self.new ≡ self.old }
+    /// Adds what a session counted that is over. False where that isn't all that there was to be counted, or a number would pass the last one;
+    /// the worker's numbers stay then.
+    pub(crate) fn add(&mut self, count: SessionCount) -> bool
+        ensures added { result ≡ true
+            → (count.book_full ≡ false) × (self.new ≡ both self.old count.counted) }
+        ensures same { result ≡ false → self.new ≡ self.old }
     {
-        self.stock.take()
+        let (counted, is_full) = count.into_parts();
+        !is_full && self.totals.add(&counted)
     }
 
-    /// Takes back the share of a session that is over.
-    pub(crate) fn give_back(&mut self, share: Share<G, P, D, E, R>)
-        ensures { self.new ≡ both self.old share }
+    /// What it has counted.
+    fn totals(&self) -> &Totals
+        ensures { result.now ≡ self.now }
     {
-        self.stock.give_back(share);
-    }
-
-    /// The stock.
-    fn into_stock(self) -> Stock<G, P, D, E, R>
-        ensures { result ≡ self }
-    {
-        let Tray { stock, scratch: _ } = self;
-        stock
+        &self.totals
     }
 }
 
-/// A worker's tray for each of these stocks.
-pub(crate) fn trays_of<G: Ledger, P: Ledger, D: Ledger, E: Ledger, R: Ledger>(
-    alloc: Global,
-    stocks: Vec<Stock<G, P, D, E, R>>,
-) -> Result<Vec<Tray<G, P, D, E, R>>, AllocError>
-    ensures { IfOk result (λ trays. trays.items ≡ stocks.items) }
+/// A tray for each of so many workers.
+pub(crate) fn new_trays(alloc: Global, workers: u16) -> Result<Vec<Tray>, AllocError>
+    ensures { IfOk result (λ trays. trays.items ≡ replicate workers zeros) }
 {
-    let mut trays = Vec::with_capacity(alloc, stocks.len())?;
-    for stock in stocks {
-        trays.push(Tray::new(alloc, stock))?;
+    let mut trays = Vec::with_capacity(alloc, usize::from(workers))?;
+    for _ in 0..workers {
+        trays.push(Tray::new(alloc))?;
     }
     Ok(trays)
 }
 
-/// The stocks of workers whose sessions are over.
-pub(crate) fn stocks_of<G: Ledger, P: Ledger, D: Ledger, E: Ledger, R: Ledger>(
-    alloc: Global,
-    trays: Vec<Tray<G, P, D, E, R>>,
-) -> Result<Vec<Stock<G, P, D, E, R>>, AllocError>
-    ensures { IfOk result (λ stocks. stocks.items ≡ trays.items) }
+/// What these workers have counted in all. None where a number would pass the last one.
+pub(crate) fn sum_up(trays: Vec<Tray>) -> Option<Totals>
+    ensures sum { IfSome result (λ totals. totals ≡ sum_of trays.items) }
+    ensures past { IfNone result (ArePastFull zeros (sum_of trays.items)) }
 {
-    let mut stocks = Vec::with_capacity(alloc, trays.len())?;
+    let mut totals = Totals::zeros();
     for tray in trays {
-        stocks.push(tray.into_stock())?;
+        if !totals.add(tray.totals()) {
+            return None;
+        }
     }
-    Ok(stocks)
+    Some(totals)
 }

@@ -1,5 +1,5 @@
 //! What shares add to a book, and what the book has when it is closed.
-mod stock;
+mod count;
 
 ghost use Rattle.std.specs.Prelude.{◌≡◌, vec_len};
 ghost use Rattle.stats_book.specs.Holdings.{AllAre};

@@ -6,7 +6,7 @@ ghost use Rattle.gate_node.specs.Passes.{ArePassesOf};
 use crate::exchanges::NOTHING_COUNTED;
 use gate_node::{GateNode, GivenUp, PartitionCache, Passes, Reserve, Shared, Turnstile};
 use node_session::{Node, serve};
-use stats_book::{Blanks, Book, Quantity, Share, Totals, close};
+use stats_book::{Blanks, Book, CountReplies, Quantity, Share, Totals, close};
 use std::alloc::Global;
 use std::marker::Brand;
 use std::sync::Wait;
@@ -39,9 +39,9 @@ pub const NEW_SESSION: Session = Session {
 };
 
 /// The requests of a session get its replies.
-fn answers<W: Wait, T: Turnstile, G: Ledger, P: Ledger, D: Ledger, E: Ledger, R: Ledger>(
+fn answers<W: Wait, T: Turnstile, C: CountReplies>(
     alloc: Global,
-    node: &mut GateNode<'_, W, T, G, P, D, E, R>,
+    node: &mut GateNode<'_, W, T, C>,
     session: &Session,
 ) -> bool
     ensures { node.new.shared ≡ node.old.shared }
@@ -53,9 +53,9 @@ fn answers<W: Wait, T: Turnstile, G: Ledger, P: Ledger, D: Ledger, E: Ledger, R:
 }
 
 /// Whether a node gives memory up just where its thread keeps some back, as often as it is asked to.
-fn gives_up<W: Wait, T: Turnstile, G: Ledger, P: Ledger, D: Ledger, E: Ledger, R: Ledger>(
+fn gives_up<W: Wait, T: Turnstile, C: CountReplies>(
     alloc: Global,
-    node: &GateNode<'_, W, T, G, P, D, E, R>,
+    node: &GateNode<'_, W, T, C>,
     has_reserve: bool,
 ) -> bool {
     node.make_room(alloc) == has_reserve && node.make_room(alloc) == has_reserve

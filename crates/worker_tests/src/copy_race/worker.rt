@@ -1,16 +1,11 @@
 //! A node over the gates that puts and gets by the contexts that it was shown, and records its puts.
-ghost use Rattle.std.specs.Prelude.{◌≡◌, vec_len};
-ghost use Rattle.stats_book.specs.Holdings.{AllAre};
-ghost use Rattle.gate_node.specs.Passes.{ArePassesOf};
 
 use crate::copy_race::puts::{Put, frame_of, pair_of};
 use gate_node::{GateNode, Open, Passes, Shared};
 use node_session::serve;
-use stats_book::{Blanks, Book, Share, close};
+use stats_book::SessionCount;
 use std::alloc::{AllocError, Global};
-use std::marker::Brand;
 use std::sync::Wait;
-use std::sync::ledger::Ledger;
 
 /// The ids of the primary and of its fallback.
 pub const VNODES: [u64; 2] = [65_536, 98_304];
@@ -35,9 +30,9 @@ pub struct Done {
 }
 
 /// The reply to a frame.
-fn ask<W: Wait, G: Ledger, P: Ledger, D: Ledger, E: Ledger, R: Ledger>(
+fn ask<W: Wait>(
     alloc: Global,
-    node: &mut GateNode<'_, W, Open, G, P, D, E, R>,
+    node: &mut GateNode<'_, W, Open, SessionCount>,
     frame: &[u8],
 ) -> Option<Vec<u8>> {
     let mut reader = frame;
@@ -104,9 +99,9 @@ fn put_of(key: u8, value: u8, context: &[u8], reply: &[u8]) -> Option<Put> {
 }
 
 /// A put of the key by a context, and what it shows; recorded.
-fn put_once<W: Wait, G: Ledger, P: Ledger, D: Ledger, E: Ledger, R: Ledger>(
+fn put_once<W: Wait>(
     alloc: Global,
-    node: &mut GateNode<'_, W, Open, G, P, D, E, R>,
+    node: &mut GateNode<'_, W, Open, SessionCount>,
     key: u8,
     value: u8,
     context: &[u8],
@@ -120,9 +115,9 @@ fn put_once<W: Wait, G: Ledger, P: Ledger, D: Ledger, E: Ledger, R: Ledger>(
 }
 
 /// The context of a put: every other one goes by a get before it, every fifth by none, the others by the last that was shown.
-fn context_for<W: Wait, G: Ledger, P: Ledger, D: Ledger, E: Ledger, R: Ledger>(
+fn context_for<W: Wait>(
     alloc: Global,
-    node: &mut GateNode<'_, W, Open, G, P, D, E, R>,
+    node: &mut GateNode<'_, W, Open, SessionCount>,
     key: u8,
     turn: u8,
     last: &[u8],
@@ -139,9 +134,9 @@ fn context_for<W: Wait, G: Ledger, P: Ledger, D: Ledger, E: Ledger, R: Ledger>(
 }
 
 /// One turn at a key: the context that its put's reply shows.
-fn take_turn<W: Wait, G: Ledger, P: Ledger, D: Ledger, E: Ledger, R: Ledger>(
+fn take_turn<W: Wait>(
     alloc: Global,
-    node: &mut GateNode<'_, W, Open, G, P, D, E, R>,
+    node: &mut GateNode<'_, W, Open, SessionCount>,
     key: u8,
     worker: u8,
     turn: u8,
@@ -155,9 +150,9 @@ fn take_turn<W: Wait, G: Ledger, P: Ledger, D: Ledger, E: Ledger, R: Ledger>(
 }
 
 /// All turns of a worker at both keys, of which the first at b/k goes by this context.
-fn take_turns<W: Wait, G: Ledger, P: Ledger, D: Ledger, E: Ledger, R: Ledger>(
+fn take_turns<W: Wait>(
     alloc: Global,
-    node: &mut GateNode<'_, W, Open, G, P, D, E, R>,
+    node: &mut GateNode<'_, W, Open, SessionCount>,
     worker: u8,
     context: &[u8],
 ) -> Option<Vec<Put>> {
@@ -172,9 +167,9 @@ fn take_turns<W: Wait, G: Ledger, P: Ledger, D: Ledger, E: Ledger, R: Ledger>(
 }
 
 /// What a node answers.
-fn take_part<W: Wait, G: Ledger, P: Ledger, D: Ledger, E: Ledger, R: Ledger>(
+fn take_part<W: Wait>(
     alloc: Global,
-    node: &mut GateNode<'_, W, Open, G, P, D, E, R>,
+    node: &mut GateNode<'_, W, Open, SessionCount>,
     part: Part<'_>,
 ) -> Option<Done> {
     match part {
@@ -191,74 +186,12 @@ fn take_part<W: Wait, G: Ledger, P: Ledger, D: Ledger, E: Ledger, R: Ledger>(
     }
 }
 
-/// The same by a new node with this share.
-fn take_by<W: Wait, G: Ledger, P: Ledger, D: Ledger, E: Ledger, R: Ledger>(
-    rt: &W,
-    alloc: Global,
-    shared: &Shared,
-    book: &Book<G, P, D, E, R>,
-    share: Share<G, P, D, E, R>,
-    passes: Passes,
-    part: Part<'_>,
-) -> (Share<G, P, D, E, R>, Option<Done>)
-    requires { ArePassesOf shared.now passes }
-{
-    let mut node = GateNode::new(rt, shared, book, share, passes, &Open);
-    let done = take_part(alloc, &mut node, part);
-    let (share, _passes, _is_book_full) = node.parts();
-    (share, done)
-}
-
-/// The same with the one share of this book.
-fn take_in<W: Wait, G: Ledger, P: Ledger, D: Ledger, E: Ledger, R: Ledger>(
-    rt: &W,
-    alloc: Global,
-    shared: &Shared,
-    book: Book<G, P, D, E, R>,
-    mut shares: Vec<Share<G, P, D, E, R>>,
-    passes: Passes,
-    part: Part<'_>,
-) -> Option<Done>
-    requires passes { ArePassesOf shared.now passes }
-    requires one { vec_len shares ≡ 1 }
-    requires parts { AllAre 1 G.parts P.parts D.parts E.parts R.parts }
-{
-    let share = shares.swap_remove(0);
-    let (share, done) = take_by(rt, alloc, shared, &book, share, passes, part);
-    shares.push_reserved(share);
-    let _totals = close(book, shares);
-    done
-}
-
-/// The same by these blanks.
-fn take_with<W: Wait, G: Ledger, P: Ledger, D: Ledger, E: Ledger, R: Ledger>(
-    rt: &W,
-    alloc: Global,
-    shared: &Shared,
-    passes: Passes,
-    part: Part<'_>,
-    blanks: Blanks,
-) -> Option<Done>
-    requires passes { ArePassesOf shared.now passes }
-    requires gets { (blanks.gets.name ≡ G.name) × (blanks.gets.parts ≡ G.parts) }
-    requires puts { (blanks.puts.name ≡ P.name) × (blanks.puts.parts ≡ P.parts) }
-    requires deletes { (blanks.deletes.name ≡ D.name) × (blanks.deletes.parts ≡ D.parts) }
-    requires refusals { (blanks.refusals.name ≡ E.name) × (blanks.refusals.parts ≡ E.parts) }
-    requires reaps { (blanks.reaps.name ≡ R.name) × (blanks.reaps.parts ≡ R.parts) }
-    requires parts { AllAre 1 G.parts P.parts D.parts E.parts R.parts }
-{
-    match Book::<G, P, D, E, R>::new(alloc, 1, blanks) {
-        Ok((book, shares)) => take_in(rt, alloc, shared, book, shares, passes, part),
-        Err(_) => None,
-    }
-}
-
 /// What a new node over these gates answers. None where memory is refused, or a put isn't stored.
 pub fn take<W: Wait>(rt: &W, alloc: Global, shared: &Shared, part: Part<'_>) -> Option<Done> {
     let passes = match Passes::new(alloc, shared) {
         Ok(passes) => passes,
         Err(_) => return None,
     };
-    let blanks = Blanks::new(1);
-    take_with::<W, Brand, Brand, Brand, Brand, Brand>(rt, alloc, shared, passes, part, blanks)
+    let mut node = GateNode::counting_by(rt, shared, SessionCount::new(), passes, &Open);
+    take_part(alloc, &mut node, part)
 }

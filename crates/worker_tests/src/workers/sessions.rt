@@ -1,5 +1,6 @@
 //! A source of sessions, those that rest first, and runs of it.
-ghost use Rattle.std.specs.Prelude.{◌≡◌, ◌+◌, ◌≤◌, length, map, vec_len, vec_capacity, IfOk, IfSome};
+ghost use Rattle.std.specs.Prelude.{◌≡◌, ◌+◌, ◌≤◌, length, map, vec_len, vec_capacity, IfOk};
+ghost use Rattle.std.specs.Prelude.{IfSome};
 ghost use Rattle.job_pool.specs.Lists.{Every, concat};
 ghost use Rattle.gate_node.specs.Gates.{Gates};
 ghost use Rattle.gate_node.specs.Passes.{ArePassesOf};

@@ -1,15 +1,18 @@
-use Rattle.std.proofs.Common.{◌≡◌, subst}
-use Rattle.stats_book.specs.Counting.{both}
+use Rattle.std.proofs.Common.{subst}
+use Rattle.std.specs.Prelude.{not}
 use Rattle.stats_book.specs.declared.totals.Totals.{Totals}
+use Rattle.session_pool.specs.declared.host.LeftSession.{LeftSession}
+use Rattle.session_pool.specs.Serving.{CountsInStay}
+use Rattle.session_pool.proofs.Counted.{counts_in_stay}
 use Rattle.session_pool.proofs.Resting.{rests_where}
 use Rattle.session_pool.proofs.host.HostService.close.Goals as goal
 
 pub returns : goal.returns
 returns g c = λ session stands.
+    let shared = c.args.self.now in
     let left = c.leave-left in
-    record {
-      counted = left.result.1;
-      raised = subst (λ (t : Totals). c.give_back.new.self ≡ both t left.result.1) c.worker.view_is c.give_back.ensures;
-      leaves = left.ensures.left c.args.self.now session stands;
-      rests = rests_where g.Q.Pause.can_be_raised c.args.opened.stage left.result.0 c.requires left.ensures.over;
-    }
+    let added = c.add-is_added in
+    let one : LeftSession g.row.R.Denot g.row.W.Denot = record { left = left.result.0; book_full = not added.result } in
+    subst (λ (first : Totals). CountsInStay g.Q.Pause.can_be_raised g.R.Read.remaining g.W.Write.contents shared first session added.new.self one) c.worker.view_is
+    (counts_in_stay g.Q.Pause.can_be_raised g.R.Read.remaining g.W.Write.contents shared c.worker.inside.totals added.new.self session left.result.1 added.result left.result.0
+    (left.ensures.left shared session stands) (rests_where g.Q.Pause.can_be_raised c.args.opened.stage left.result.0 c.requires left.ensures.over) added.ensures.added added.ensures.same)

@@ -1,6 +1,0 @@
-use Rattle.std.proofs.Common.{◌≡◌, ◌++◌}
-use Rattle.std.specs.Vec.Iter.{into_iter_items}
-use Rattle.worker_pool.proofs.tray.stocks_of.Given as goal
-
-abbrev pub invariant-loop-tray : goal.invariant-loop-tray
-invariant-loop-tray g l = l.stocks.items ++ into_iter_items l.tray-iterator ≡ l.fn.trays.items
