@@ -18,7 +18,7 @@ use Rattle.vnode_machine.specs.Dead.{is_from}
 use Rattle.vnode_machine.proofs.Keys.{key_cmp_total}
 use Rattle.clock_store.specs.declared.clock_map.index.DeadKey.{DeadKey}
 use Rattle.clock_store.specs.Index.{is_mark, without_spare, first_marked, first_unless_above, dead_key}
-use Rattle.clock_store.specs.ShortKeys.{is_short_key}
+use Rattle.names.specs.ShortKeys.{is_short_key}
 use Rattle.clock_store.proofs.Entries.{exact}
 use Rattle.clock_store.proofs.Marks.{IsLeast, first_of, first_least, first_none, ordered_sorted, order, find_lookup}
 use Rattle.clock_store.proofs.Ties.{clash}

@@ -1,5 +1,5 @@
 //! Tests of `wire_varint`, `pb_fields`, `pb_frame` and `riak_msgs`, from outside: varints, fields, frames and messages
-//! as their bytes; and of `control_text`, a console's lines.
+//! as their bytes; of `names`, an index of keys; and of `control_text`, a console's lines.
 //!
 //! They stand in a crate of their own, since a crate with tests is proved twice.
 #![tactic(auto)]
@@ -14,6 +14,8 @@ mod frames;
 mod idle;
 #[cfg(test)]
 mod messages;
+#[cfg(test)]
+mod places;
 #[cfg(test)]
 mod scans;
 #[cfg(test)]

@@ -9,7 +9,7 @@ use Rattle.riak_msgs.specs.Contents.{Content}
 use Rattle.riak_msgs.specs.KeyOrder.{key_cmp}
 use Rattle.clock_store.specs.Behind.{is_behind, entries_behind, next_entry}
 use Rattle.clock_store.specs.KeyRefs.{key_found}
-use Rattle.clock_store.specs.declared.key_ref.FoundKey.{FoundKey}
+use Rattle.clock_store.specs.declared.FoundKey.{FoundKey}
 use Rattle.clock_store.specs.Keys.{stored_of}
 use Rattle.clock_store.specs.declared.stored_clock.StoredClock.{StoredClock}
 use Rattle.vnode_machine.specs.Machine.{State, Stored}

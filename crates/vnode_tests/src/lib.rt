@@ -18,8 +18,6 @@ mod gates;
 #[cfg(test)]
 mod ghosts;
 #[cfg(test)]
-mod places;
-#[cfg(test)]
 mod reaping;
 #[cfg(test)]
 mod register;

@@ -9,7 +9,7 @@ ghost use Rattle.clock_store.specs.Forgetting.{key_given};
 ghost use Rattle.clock_store.specs.Index.{is_mark, without_spare, first_marked};
 
 use crate::clock_map::room::is_mark;
-use crate::short_key::ShortKey;
+use names::ShortKey;
 use riak_msgs::Key;
 use std::alloc::AllocError;
 use std::cmp::Ordering;

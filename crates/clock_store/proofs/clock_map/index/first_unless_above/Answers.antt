@@ -1,7 +1,7 @@
 use Rattle.std.proofs.Common.{◌∙◌, sym, ap, cond}
 use Rattle.std.specs.Prelude.{Some, None}
 use Rattle.std.specs.Ordering.{is_lt}
-use Rattle.clock_store.proofs.ShortKeys.{not_less}
+use Rattle.names.proofs.ShortKeys.{not_less}
 use Rattle.clock_store.proofs.MergedMarks.{unless_above}
 use Rattle.clock_store.proofs.clock_map.index.first_unless_above.Goals as goal
 

@@ -4,7 +4,7 @@ use Rattle.std.specs.Ordering.{is_le}
 use Rattle.riak_msgs.specs.KeyOrder.{key_cmp}
 use Rattle.clock_store.specs.Index.{first_marked}
 use Rattle.clock_store.proofs.Marks.{first_within, and_true, all_in}
-use Rattle.clock_store.proofs.ShortKeys.{of_some}
+use Rattle.names.proofs.ShortKeys.{of_some}
 use Rattle.clock_store.proofs.clock_map.short_index.first_at.Goals as goal
 
 pub returns-in-Some : goal.returns-in-Some

@@ -2,7 +2,7 @@ use Rattle.std.proofs.Common.{◌∙◌, sym, ap}
 use Rattle.std.specs.Prelude.{◌&&◌}
 use Rattle.std.specs.Ordering.{is_le}
 use Rattle.clock_store.specs.Index.{is_mark}
-use Rattle.clock_store.proofs.ShortKeys.{le_unless_greater}
+use Rattle.names.proofs.ShortKeys.{le_unless_greater}
 use Rattle.clock_store.proofs.clock_map.short_index.is_dead_from.Goals as goal
 
 pub returns-in-Greater : goal.returns-in-Greater

@@ -1,5 +1,5 @@
 use Rattle.std.proofs.Common.{◌∙◌, sym, ap}
-use Rattle.clock_store.specs.AssocList.{get}
+use Rattle.names.specs.AssocList.{get}
 use Rattle.riak_msgs.specs.KeyOrder.{key_cmp}
 use Rattle.clock_store.specs.Index.{without_spare}
 use Rattle.clock_store.proofs.Marks.{no_spare_mark}

@@ -7,9 +7,9 @@ use Rattle.riak_msgs.specs.KeyOrder.{key_cmp}
 use Rattle.vnode_machine.proofs.Keys.{key_cmp_total}
 use Rattle.names.specs.Merged.{merged}
 use Rattle.names.proofs.Merged.{set_first, set_second}
-use Rattle.clock_store.specs.ShortKeys.{is_short_key}
-use Rattle.clock_store.proofs.MergedPlaces.{first_after, second_after}
-use Rattle.clock_store.proofs.ShortKeys.{of_some, of_none}
+use Rattle.names.specs.ShortKeys.{is_short_key}
+use Rattle.names.proofs.MergedPlaces.{first_after, second_after}
+use Rattle.names.proofs.ShortKeys.{of_some, of_none}
 use Rattle.clock_store.proofs.MergedMarks.{same_short_key}
 use Rattle.clock_store.proofs.clock_map.index.DeadKeys.insert.Goals as goal
 

@@ -5,8 +5,8 @@ use Rattle.std.specs.Map.{lookup}
 use Rattle.riak_msgs.specs.KeyOrder.{key_cmp}
 use Rattle.vnode_machine.proofs.Keys.{key_cmp_total}
 use Rattle.names.proofs.Merged.{apart_first, apart_second, set_first, set_second}
-use Rattle.clock_store.specs.ShortKeys.{is_short_key}
-use Rattle.clock_store.proofs.ShortKeys.{of_some, of_none}
+use Rattle.names.specs.ShortKeys.{is_short_key}
+use Rattle.names.proofs.ShortKeys.{of_some, of_none}
 use Rattle.clock_store.proofs.MergedMarks.{same_short_key}
 use Rattle.clock_store.proofs.clock_map.index.DeadKeys.remove.Goals as goal
 

@@ -3,7 +3,7 @@ use Rattle.std.specs.Prelude.{None}
 use Rattle.vnode_machine.proofs.Keys.{key_cmp_total}
 use Rattle.names.proofs.Merged.{apart_first, set_first, merged_sorted}
 use Rattle.clock_store.specs.Forgetting.{key_given}
-use Rattle.clock_store.specs.ShortKeys.{is_short_key}
+use Rattle.names.specs.ShortKeys.{is_short_key}
 use Rattle.clock_store.proofs.MergedMarks.{same_short_key, taken_first, taken_second, taken_is_short, apart_taken, merged_taken, merged_none}
 use Rattle.clock_store.proofs.clock_map.index.DeadKeys.take_first.Goals as goal
 

@@ -1,8 +1,0 @@
-use Rattle.std.proofs.Common.{◌∙◌, ap, List, ℕ}
-use Rattle.std.specs.BTreeMap.{insert_entry}
-use Rattle.clock_store.specs.Nested.{KeyPlaces, bytes_cmp}
-use Rattle.clock_store.proofs.MergedPlaces.{nested_one}
-use Rattle.clock_store.proofs.place_map.short_buckets.ShortBuckets.one_key.Goals as goal
-
-pub invariant_of-result : goal.invariant_of-result
-invariant_of-result c = nested_one c.args.bucket.now c.args.key.now c.args.place c.in_ok-keys.keys c.insert.new.self.entries (c.in-Ok.ensures.entries ∙ ap (λ (es : List (List ℕ × KeyPlaces)). insert_entry bytes_cmp es c.args.bucket.now c.in_ok-keys.keys) c.new-buckets.ensures.empty) c.in_ok-keys.ensures
