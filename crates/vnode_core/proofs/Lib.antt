@@ -13,6 +13,7 @@ pub mod Reaping
 pub mod Registers
 pub mod Rooms
 pub mod Showing
+pub mod SoleWrites
 pub mod Soles
 pub mod Sound
 pub mod Sweeping

@@ -32,7 +32,7 @@ siblings-full count full = rw full refl
 pub siblings-free : (count : ℕ) → nat_le max_siblings count ≡ false → first_of ((nat_le max_siblings count, too_many_siblings) ∷ []) ≡ None
 siblings-free count few = rw few refl
 
-abbrev check_of : (a n : ℕ) → (is_out_of_epochs : Bool) → Option ℕ
+abbrev pub check_of : (a n : ℕ) → (is_out_of_epochs : Bool) → Option ℕ
 check_of a n is_out_of_epochs = first_of ((nat_lt max_actors a, clock_full) ∷ (is_out_of_epochs, epochs_used_up) ∷ (n == max_counter, counter_used_up) ∷ [])
 
 pub actor-full : (a n : ℕ) (is_out_of_epochs : Bool) → max_actors < a → check_of a n is_out_of_epochs ≡ Some clock_full

@@ -18,14 +18,14 @@ use Rattle.vnode_core.specs.Replies.{sole}
 actor_eq-refl : (a : Actor) → actor_eq a a ≡ true
 actor_eq-refl a = grind (arith, nat_tests)
 
-actor_cmp-refl : (a : Actor) → actor_cmp a a ≡ Equal
+pub actor_cmp-refl : (a : Actor) → actor_cmp a a ≡ Equal
 actor_cmp-refl a = grind (arith, nat_tests)
 
 -- the one pair
 abbrev pub alone : Actor → ℕ → List Dot
 alone a n = record { actor = a; counter = n } ∷ []
 
-counter_in-alone : (a : Actor) (n : ℕ) → counter_in (alone a n) a ≡ n
+pub counter_in-alone : (a : Actor) (n : ℕ) → counter_in (alone a n) a ≡ n
 counter_in-alone a n = ap (λ b. cond b (max n 0) 0) (actor_eq-refl a) ∙ most n
   where
     most : (n : ℕ) → max n 0 ≡ n

@@ -8,5 +8,6 @@ pub mod Readiness
 pub mod Reaping
 pub mod Refusals
 pub mod Replies
+pub mod Soles
 pub mod Sweeps
 pub mod Vnodes

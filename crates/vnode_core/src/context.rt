@@ -54,7 +54,7 @@ pub(crate) fn names_unissued_dot(
 
 /// Whether a pair can't have been given so.
 #[inline(always)]
-fn is_ahead(vnode: u64, last_epoch: u32, last: Option<Dot>, pair: Dot) -> bool
+pub(crate) fn is_ahead(vnode: u64, last_epoch: u32, last: Option<Dot>, pair: Dot) -> bool
     ensures { result ≡ is_ahead vnode last_epoch last pair }
 {
     if pair.actor.vnode == vnode && last_epoch < pair.actor.epoch {

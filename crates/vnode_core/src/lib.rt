@@ -94,6 +94,7 @@ mod left;
 mod ready;
 mod refusal;
 mod replies;
+mod sole_writer;
 mod stored_reply;
 mod sweeps;
 mod vnode;

@@ -1,5 +1,4 @@
 //! One vnode.
-
 ghost use Rattle.std.specs.Prelude.{◌≡◌, ◌-◌, ◌≤◌, [], None, Some, IfOk, IfErr, OnOk};
 ghost use Rattle.std.specs.Option.{option_map};
 ghost use Rattle.actor_epoch.specs.Given.{context_of, Pairs};
@@ -12,9 +11,8 @@ ghost use Rattle.vnode_machine.specs.Step.{outcome, Answered, GetDone};
 ghost use Rattle.vnode_core.specs.Checks.{found_in, writer_of};
 ghost use Rattle.vnode_core.specs.declared.ask.Ask.TheVariants.{Put, Del};
 ghost use Rattle.vnode_machine.specs.Sound.{IsSound};
-ghost use Rattle.vnode_core.specs.Plans.{AcceptsPrepared, IsPrepared, IsWrite, Plans, Refuses};
-ghost use Rattle.vnode_core.specs.Plans.{RefusesOpen, Registers, RegistersPlan, RegistersStep};
-ghost use Rattle.vnode_core.specs.Plans.{Steps};
+ghost use Rattle.vnode_core.specs.Plans.{AcceptsPrepared, IsPrepared, IsWrite, Plans, RefusesOpen};
+ghost use Rattle.vnode_core.specs.Plans.{Refuses, Registers, RegistersPlan, RegistersStep, Steps};
 ghost use Rattle.vnode_core.specs.Readiness.{plan_in};
 ghost use Rattle.vnode_core.specs.Refusals.{GivenBy};
 ghost use Rattle.vnode_core.specs.declared.ask.Answer.TheVariants as answers;
@@ -37,6 +35,7 @@ use crate::laid_answer::LaidAnswer;
 use crate::ready::{Readiness, Ready, plan_of, refuse, set_ready, tombstones_after, writes_after};
 use crate::refusal::Refusal;
 use crate::replies::{absent_reply, put_reply, siblings_reply};
+use crate::sole_writer::sole_writer;
 use actor_epoch::{Actor, Context, EpochSource};
 use clock_store::{ClockMap, ClockStore, StoredClock, WriteKind, place_in, stored_in};
 use ghost_state::GhostValue;
@@ -45,8 +44,8 @@ use std::alloc::{AllocError, Global};
 use std::marker::Model;
 pub use tally::Tally;
 
-/// One vnode: the keys that it holds, each with its siblings. Contracts see the vnode machine's state, and the command
-/// that was prepared last and isn't made yet.
+/// One vnode: the keys that it holds, with their siblings. Contracts see the machine's state, and the command that was
+/// prepared last and isn't made yet.
 ///
 /// A life, of a vnode with id 65536 and first epoch 1, and of the key k in the bucket b:
 ///
@@ -198,11 +197,10 @@ impl<S: ClockStore> VnodeOver<S> {
         VnodeOver::after(alloc, id, first_epoch - 1)
     }
 
-    /// Shows a key: its siblings, the newest first, and the bytes of its context; nothing, where the key
-    /// is absent. A dead key, whose siblings are all tombstones, shows its context alone, and that with
-    /// `deletedvclock` alone. With `head` the values are empty. Where the key has a value and
-    /// `if_modified` has the entries of its clock, the reply is `unchanged` alone; any other
-    /// `if_modified` is as none. Refused for want of memory alone.
+    /// Shows a key: its siblings, the newest first, and the bytes of its context; nothing, where the key is absent. A
+    /// dead key, whose siblings are all tombstones, shows its context alone, and that with `deletedvclock` alone.
+    /// With `head` the values are empty. Where the key has a value and `if_modified` has the entries of its clock,
+    /// the reply is `unchanged` alone; any other `if_modified` is as none. Refused for want of memory alone.
     pub fn get(&self, alloc: Global, ask: &GetAsk) -> Result<GetReply, Refusal>
         ensures ok { IfOk result (λ reply.
             outcome self.now.state (AskGet (get_command ask.now)) ≡ Answered (GetDone reply)) }
@@ -230,6 +228,9 @@ impl<S: ClockStore> VnodeOver<S> {
         ensures writer { IfOk result (λ writer. writer ≡ writer_of self.now.state put.now.key) }
     {
         let last_epoch = self.epochs.last();
+        if let Some(writer) = sole_writer(self.id, last_epoch, put, found, context) {
+            return Ok(writer);
+        }
         let last = last_of(found);
         if names_unissued_dot(context, self.id, last_epoch, last) {
             return Err(Refusal::BadContext);
@@ -322,28 +323,26 @@ impl<S: ClockStore> VnodeOver<S> {
         }
     }
 
-    /// Plans a command: checks it, makes all the room that it needs, and its answer. Nothing changes
-    /// until the change is finished; a change that isn't finished is as if never asked for, and the next
-    /// `prepare` ends it, also one that is refused. The room of a copy that was given up stays until room
-    /// is made again, or a reap or a close ends it. A delete without context of an absent key does
-    /// nothing: it is `Plan::Nothing`, whatever memory there is. So is a copy that is `Stuck`, and
-    /// whatever is asked of a vnode that is closed: the answer is `Closed`.
+    /// Plans a command: checks it, makes all the room that it needs, and its answer. Nothing changes until the change
+    /// is finished; a change that isn't finished is as if never asked for, and the next `prepare` ends it, also one
+    /// that is refused. The room of a copy that was given up stays until room is made again, or a reap or a close
+    /// ends it. A delete without context of an absent key does nothing: it is `Plan::Nothing`, whatever memory there
+    /// is. So is a copy that is `Stuck`, and whatever is asked of a vnode that is closed: the answer is `Closed`.
     ///
     /// The answer to a put shows nothing, or with `return_body` all siblings after it, the newest first,
     /// and the context; with `return_head` alone the same with empty values.
     ///
-    /// Refusals, the first that holds, by checks that take no memory: `BadContext`, where the context
-    /// isn't of the form, or names an epoch of this vnode above the last one given, or the key's own
-    /// actor with a counter above the stored one; `MatchFound`, where the put asks for no value and there
-    /// is one; `NotFound` and `Modified`, where it asks for an unchanged key and not for no value, and
-    /// there is no value, or the context hasn't the entries of the key's clock; `TooManySiblings`, where
-    /// more than 63 siblings aren't covered by the context; `ClockFull`, where the actors of the key's
-    /// clock, of the context and the key's own are more than 64; `EpochsUsedUp`, where the key is absent
-    /// or came by copies alone, and the epoch 4,294,967,295 was given; `CounterUsedUp`, where the key's
-    /// actor has the dot 18,446,744,073,709,551,615. The own actor of a key that has none is the next
-    /// one. `NoMemory`, where none of these holds and a growth was refused. Each leaves the state as it
-    /// was. The options are a put's alone. Without a context a put covers nothing, and a delete all that
-    /// is stored: `BadContext` and `TooManySiblings` never refuse such a delete.
+    /// Refusals, the first that holds, by checks that take no memory: `BadContext`, where the context isn't of the
+    /// form, or names an epoch of this vnode above the last one given, or the key's own actor with a counter above
+    /// the stored one; `MatchFound`, where the put asks for no value and there is one; `NotFound` and `Modified`,
+    /// where it asks for an unchanged key and not for no value, and there is no value, or the context hasn't the
+    /// entries of the key's clock; `TooManySiblings`, where more than 63 siblings aren't covered by the context;
+    /// `ClockFull`, where the actors of the key's clock, of the context and the key's own are more than 64;
+    /// `EpochsUsedUp`, where the key is absent or came by copies alone, and the epoch 4,294,967,295 was given;
+    /// `CounterUsedUp`, where the key's actor has the dot 18,446,744,073,709,551,615. The own actor of a key that has
+    /// none is the next one. `NoMemory`, where none of these holds and a growth was refused. Each leaves the state as
+    /// it was. The options are a put's alone. Without a context a put covers nothing, and a delete all that is
+    /// stored: `BadContext` and `TooManySiblings` never refuse such a delete.
     #[inline(always)]
     pub fn prepare(&mut self, alloc: Global, ask: Ask) -> Result<Plan<Change, Answer>, Refusal>
         ensures same { self.new.state ≡ self.old.state }

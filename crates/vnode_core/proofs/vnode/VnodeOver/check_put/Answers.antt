@@ -1,17 +1,35 @@
-use Rattle.std.proofs.Common.{◌∙◌, refl, sym, ap, subst}
+use Rattle.std.proofs.Common.{◌≡◌, ◌∙◌, refl, sym, ap, subst}
+use Rattle.std.specs.Prelude.{None}
 use Rattle.std.proofs.lemmas.Result.{err_from_is_err_and}
 use Rattle.std.specs.Option.{option_map}
 use Rattle.std.specs.List.{list_any}
 use Rattle.vnode_machine.specs.Asks.{put_command}
 use Rattle.vnode_machine.specs.Machine.{stored, put_check}
 use Rattle.dvv_set.specs.Held.{pairs_of as seen_in}
-use Rattle.vnode_core.specs.Checks.{is_ahead, pairs_in}
+use Rattle.vnode_core.specs.Checks.{is_ahead, pairs_in, writer_of}
 use Rattle.vnode_core.specs.Refusals.{RefusedBy, GivenBy}
 use Rattle.clock_store.specs.Keys.{stored_of}
 use Rattle.vnode_machine.specs.Sound.{IsSound}
 use Rattle.vnode_core.specs.Vnodes.{fields, state_of}
 use Rattle.vnode_core.proofs.Options.{options-refuse, rooms-follow, formed-found}
 use Rattle.vnode_core.proofs.vnode.VnodeOver.check_put.Goals as goal
+
+pub returns-in-Some-clause-given : goal.returns-in-Some-clause-given
+returns-in-Some-clause-given g c =
+    let v = fields c.self.inside.id c.self.inside.epochs c.self.inside.writes c.self.inside.tombstones c.self.inside.reaps (g.S.ClockStore.shows c.self.inside.store) c.self.inside.ready c.self.inside.prepared c.self.inside.closed in
+    let here = c.requires.found ∙ ap (λ w. stored w.state c.args.put.now.key) (sym c.self.view_is) in
+    let is = c.in-Some.ensures (state_of v) (sym here) refl (sym c.last-last_epoch.ensures) c.requires.given in
+    subst (λ w. put_check w.state (put_command c.args.put.now) ≡ None) c.self.view_is is.free
+
+pub returns-in-Some-clause-writer : goal.returns-in-Some-clause-writer
+returns-in-Some-clause-writer g c =
+    let v = fields c.self.inside.id c.self.inside.epochs c.self.inside.writes c.self.inside.tombstones c.self.inside.reaps (g.S.ClockStore.shows c.self.inside.store) c.self.inside.ready c.self.inside.prepared c.self.inside.closed in
+    let here = c.requires.found ∙ ap (λ w. stored w.state c.args.put.now.key) (sym c.self.view_is) in
+    let is = c.in-Some.ensures (state_of v) (sym here) refl (sym c.last-last_epoch.ensures) c.requires.given in
+    subst (λ w. c.in-Some.writer ≡ writer_of w.state c.args.put.now.key) c.self.view_is is.makes
+
+pub returns-in-Some-clause-sound : goal.returns-in-Some-clause-sound
+returns-in-Some-clause-sound g c = subst (λ w. IsSound w.state) c.self.view_is c.self.invariant.sound
 
 pub returns-in_err-check_options-clause-given : goal.returns-in_err-check_options-clause-given
 returns-in_err-check_options-clause-given g c =
