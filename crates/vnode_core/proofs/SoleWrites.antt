@@ -1,13 +1,14 @@
--- A put of a key that its own actor alone has written, by a context that names no other: it is refused by few checks.
+-- A write of a key that its own actor alone has written, by a context that names no other: it is refused by few checks.
 use Rattle.std.proofs.Common.{◌≡◌, ℕ, ◌+◌, Bool, true, false, not, ◌||◌, ◌&&◌, List, [], ◌∷◌, length, refl, sym, ◌∙◌, ap, subst, arith}
 use Rattle.std.specs.Prelude.{max, if◌then◌else◌, ◌==◌, Option, Some, None, is_some, nat_le, unwrap_or, option_and_then}
 use Rattle.std.specs.Option.{option_map}
 use Rattle.std.specs.List.{list_all, list_any}
 use Rattle.std.specs.FinMap.Entries.{by_order}
 use Rattle.std.proofs.lemmas.Bool.{true≢false}
+use Rattle.riak_msgs.specs.declared.Key.{Key}
 use Rattle.riak_msgs.specs.Contents.{Content}
 use Rattle.riak_msgs.specs.declared.PutAsk.{PutAsk}
-use Rattle.sibling_register.specs.Refusals.{max_siblings, first_of, option_checks}
+use Rattle.sibling_register.specs.Refusals.{bad_context, max_siblings, first_of, option_checks}
 use Rattle.actor_epoch.specs.declared.Actor.{Actor}
 use Rattle.actor_epoch.specs.declared.Dot.{Dot}
 use Rattle.actor_epoch.specs.Limits.{max_epoch, max_counter}
@@ -18,11 +19,12 @@ use Rattle.dvv_set.specs.Clocks.{DotState}
 use Rattle.dvv_set.specs.Held.{actors_after, known_after, uncovered}
 use Rattle.dvv_set.specs.Soles.{SawAlone}
 use Rattle.dvv_set.proofs.Discards.{discard-all}
-use Rattle.vnode_machine.specs.Machine.{State, Stored, stored, next_actor}
+use Rattle.vnode_machine.specs.Machine.{State, Stored, stored, next_actor, room_checks}
 use Rattle.vnode_core.specs.Checks.{pairs_in, is_ahead, last_dot, has_value_in, is_current_in, options_check, next_writer, siblings_check, writer_check, writer_of}
-use Rattle.vnode_core.specs.Soles.{IsSole, IsSeenAlone, IsFree}
+use Rattle.vnode_core.specs.Soles.{IsSole, IsSeenAlone, IsFree, IsFreePut}
+use Rattle.vnode_core.specs.Vnodes.{del_check_by}
 use Rattle.vnode_core.specs.declared.checks.Writer.{Writer}
-use Rattle.vnode_core.proofs.Options.{rooms-follow}
+use Rattle.vnode_core.proofs.Options.{bad-is, rooms-follow}
 use Rattle.vnode_core.proofs.Rooms.{check_of, siblings-free, actor-free, writer-checks}
 use Rattle.vnode_core.proofs.Soles.{alone, actor_cmp-refl, counter_in-alone}
 
@@ -75,8 +77,8 @@ module _ (s : Stored Content) (last : Dot) (sole : IsSole s last) where
       siblings-free (uncovered pairs s.clock)
       (ap (λ ps. nat_le max_siblings (uncovered ps s.clock)) all ∙ ap (λ (clock : DotState (Option Content)). nat_le max_siblings (length clock.live)) (discard-all s.clock sole.clock))
 
-  module _ (state : State Content) (put : PutAsk) (found : stored state put.key ≡ Some s) where
-    writer-is : writer_of state put.key ≡ record { actor = last.actor; last_epoch = state.last_epoch }
+  module _ (state : State Content) (key : Key) (found : stored state key ≡ Some s) where
+    writer-is : writer_of state key ≡ record { actor = last.actor; last_epoch = state.last_epoch }
     writer-is =
         (λ i. (let w : Writer = record {
           actor = unwrap_or (option_and_then (λ (s : Stored Content). s.own) (found i)) (next_actor state);
@@ -88,15 +90,25 @@ module _ (s : Stored Content) (last : Dot) (sole : IsSole s last) where
         } in w))
 
     -- no check refuses it that isn't decided by that dot and the number of its siblings
-    pub sole-free : (id last_epoch : ℕ) (seen : Option (List Dot)) (m : ℕ) → IsSeenAlone id last_epoch last seen m → options_check put (Some s) seen ≡ None → siblings_check s.clock seen ≡ None
-        → (last.counter ≡ max_counter → ⊥) → state.vnode ≡ id → state.last_epoch ≡ last_epoch → context_of put.context ≡ option_map Pairs seen
-        → IsFree state put (record { actor = last.actor; last_epoch = last_epoch })
-    sole-free id last_epoch seen m is options siblings left vnode epoch given =
-        let behind : list_any (is_ahead state.vnode state.last_epoch (last_dot (Some s))) (pairs_in seen) ≡ false =
-        (λ i. list_any (is_ahead (vnode i) (epoch i) (last-is i)) (pairs_in seen)) ∙ is.behind in
-        let rooms = rooms-follow state put seen given is.read (Some s) (sym found) behind options in
-        let checks = writer-checks state put.key id last_epoch s (record { stored = found; vnode = vnode; epoch = epoch }) seen (ap is_rising sole.known) siblings in
+    pub sole-free : (id last_epoch : ℕ) (seen : Option (List Dot)) (m : ℕ) → IsSeenAlone id last_epoch last seen m → siblings_check s.clock seen ≡ None → (last.counter ≡ max_counter → ⊥)
+        → state.vnode ≡ id → state.last_epoch ≡ last_epoch → IsFree state key (Some s) seen (record { actor = last.actor; last_epoch = last_epoch })
+    sole-free id last_epoch seen m is siblings left vnode epoch =
+        let checks = writer-checks state key id last_epoch s (record { stored = found; vnode = vnode; epoch = epoch }) seen (ap is_rising sole.known) siblings in
         record {
-          free = rooms ∙ sym checks ∙ actor-left id last_epoch seen m is.alone left;
+          read = is.read;
+          behind = (λ i. list_any (is_ahead (vnode i) (epoch i) (last-is i)) (pairs_in seen)) ∙ is.behind;
+          room = sym checks ∙ actor-left id last_epoch seen m is.alone left;
           makes = sym (writer-is ∙ (λ i. (let w : Writer = record { actor = last.actor; last_epoch = epoch i } in w)));
         }
+
+-- so a put without conditions goes on
+pub put-free : (state : State Content) (put : PutAsk) (seen : Option (List Dot)) → context_of put.context ≡ option_map Pairs seen → (put.if_none_match || put.if_not_modified) ≡ false
+    → (o : Option (Stored Content)) → stored state put.key ≡ o → (writer : Writer) → IsFree state put.key o seen writer → IsFreePut state put writer
+put-free state put seen given plain o found writer is =
+    record { free = rooms-follow state put seen given is.read o (sym found) is.behind (no-conditions put o seen plain) ∙ is.room; makes = is.makes }
+
+-- and a delete by its context
+pub del-free : (state : State Content) (key : Key) (pairs : List Dot) (o : Option (Stored Content)) → stored state key ≡ o → (writer : Writer) → IsFree state key o (Some pairs) writer
+    → del_check_by state key pairs ≡ None
+del-free state key pairs o found writer is =
+    ap (λ b. first_of ((b, bad_context) ∷ room_checks state key pairs)) (bad-is state key (Some (Pairs pairs)) (Some pairs) refl is.read o (sym found) ∙ is.behind) ∙ is.room

@@ -1,11 +1,11 @@
-//! Who makes a put of a key that its own actor alone has written, by a context that names no other: most puts are such.
+//! Who makes a write of a key that its own actor alone has written, by a context that names no other: most writes are such.
 
 ghost use Rattle.std.specs.Prelude.{◌≡◌, ◌||◌, false, None, Some, IfSome};
 ghost use Rattle.dvv_set.specs.Held.{pairs_of as seen_in};
 ghost use Rattle.clock_store.specs.Keys.{stored_of};
 ghost use Rattle.dvv_set.specs.Soles.{SawAlone};
 ghost use Rattle.vnode_core.specs.Checks.{found_in, siblings_check};
-ghost use Rattle.vnode_core.specs.Soles.{IsSole, IsSeenAlone, MakesSole};
+ghost use Rattle.vnode_core.specs.Soles.{IsSole, IsSeenAlone, MakesSole, MakesPlain};
 
 use crate::checks::{MAX_SIBLINGS, Writer};
 use crate::context::is_ahead;
@@ -50,7 +50,7 @@ fn sole_seen(id: u64, last_epoch: u32, last: Dot, context: Option<&Context<'_>>)
     }
 }
 
-/// Whether so many siblings stay that a put is refused. A context that has seen the last dot leaves none, and they aren't
+/// Whether so many siblings stay that a write is refused. A context that has seen the last dot leaves none, and they aren't
 /// counted.
 #[inline(always)]
 fn leaves_too_many(
@@ -70,30 +70,18 @@ fn leaves_too_many(
     key.clock.has_uncovered(context, MAX_SIBLINGS)
 }
 
-/// Whether a put asks for conditions on what is stored.
-#[inline(always)]
-fn has_conditions(put: &PutAsk) -> bool
-    ensures { result ≡ (put.now.if_none_match || put.now.if_not_modified) }
-{
-    put.if_none_match || put.if_not_modified
-}
-
-/// Who makes a put without conditions of a stored key that its own actor alone has written, by a context that names no
-/// other, where nothing refuses it: all checks are decided by the key's last dot and the number of its siblings.
+/// Who makes a write of a stored key that its own actor alone has written, by a context that names no other, where there is
+/// room for it: all checks are decided by the key's last dot and the number of its siblings.
 #[inline(always)]
 fn stored_writer(
     id: u64,
     last_epoch: u32,
-    put: &PutAsk,
     key: &StoredClock,
     context: Option<&Context<'_>>,
 ) -> Option<Writer>
     ensures { IfSome result (λ writer. MakesSole id last_epoch
-        put.now (Some (stored_of key.now)) (seen_in context.entry) writer) }
+        (Some (stored_of key.now)) (seen_in context.entry) writer) }
 {
-    if has_conditions(put) {
-        return None;
-    }
     let last = sole_dot(key)?;
     if last.counter == MAX_COUNTER {
         return None;
@@ -108,21 +96,47 @@ fn stored_writer(
     })
 }
 
-/// Who makes such a put, by what was found of its key. None where the key is absent or the put is no such one: then it goes
-/// through all checks one after another.
+/// Who makes such a write, by what was found of its key. None where the key is absent or the write is no such one: then it
+/// goes through all checks one after another.
 #[inline(always)]
 pub(crate) fn sole_writer(
+    id: u64,
+    last_epoch: u32,
+    found: Option<&StoredClock>,
+    context: Option<&Context<'_>>,
+) -> Option<Writer>
+    ensures { IfSome result (λ writer. MakesSole id last_epoch
+        (found_in found.entry) (seen_in context.entry) writer) }
+{
+    match found {
+        None => None,
+        Some(key) => stored_writer(id, last_epoch, key, context),
+    }
+}
+
+/// Whether a put asks for conditions on what is stored.
+#[inline(always)]
+fn has_conditions(put: &PutAsk) -> bool
+    ensures { result ≡ (put.now.if_none_match || put.now.if_not_modified) }
+{
+    put.if_none_match || put.if_not_modified
+}
+
+/// Who makes such a put, where it asks for no conditions.
+#[inline(always)]
+pub(crate) fn plain_writer(
     id: u64,
     last_epoch: u32,
     put: &PutAsk,
     found: Option<&StoredClock>,
     context: Option<&Context<'_>>,
 ) -> Option<Writer>
-    ensures { IfSome result (λ writer. MakesSole id last_epoch
+    ensures { IfSome result (λ writer. MakesPlain id last_epoch
         put.now (found_in found.entry) (seen_in context.entry) writer) }
 {
-    match found {
-        None => None,
-        Some(key) => stored_writer(id, last_epoch, put, key, context),
+    if has_conditions(put) {
+        return None;
     }
+    let writer = sole_writer(id, last_epoch, found, context)?;
+    Some(writer)
 }

@@ -35,7 +35,7 @@ use crate::laid_answer::LaidAnswer;
 use crate::ready::{Readiness, Ready, plan_of, refuse, set_ready, tombstones_after, writes_after};
 use crate::refusal::Refusal;
 use crate::replies::{absent_reply, put_reply, siblings_reply};
-use crate::sole_writer::sole_writer;
+use crate::sole_writer::plain_writer;
 use actor_epoch::{Actor, Context, EpochSource};
 use clock_store::{ClockMap, ClockStore, StoredClock, WriteKind, place_in, stored_in};
 use ghost_state::GhostValue;
@@ -228,7 +228,7 @@ impl<S: ClockStore> VnodeOver<S> {
         ensures writer { IfOk result (λ writer. writer ≡ writer_of self.now.state put.now.key) }
     {
         let last_epoch = self.epochs.last();
-        if let Some(writer) = sole_writer(self.id, last_epoch, put, found, context) {
+        if let Some(writer) = plain_writer(self.id, last_epoch, put, found, context) {
             return Ok(writer);
         }
         let last = last_of(found);

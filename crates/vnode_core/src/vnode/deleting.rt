@@ -18,6 +18,7 @@ use crate::context::names_unissued_dot;
 use crate::laid_answer::LaidAnswer;
 use crate::ready::{Readiness, Ready, set_ready};
 use crate::refusal::Refusal;
+use crate::sole_writer::sole_writer;
 use crate::vnode::VnodeOver;
 use actor_epoch::Context;
 use clock_store::{ClockStore, StoredClock, WriteKind, place_in, stored_in};
@@ -39,6 +40,9 @@ impl<S: ClockStore> VnodeOver<S> {
     {
         let _key = key;
         let last_epoch = self.epochs.last();
+        if let Some(writer) = sole_writer(self.id, last_epoch, found, Some(context)) {
+            return Ok(writer);
+        }
         let last = last_of(found);
         if names_unissued_dot(Some(context), self.id, last_epoch, last) {
             return Err(Refusal::BadContext);
