@@ -96,6 +96,9 @@ const EXCHANGES: &[Exchange] = &[
             // an epoch that wasn't given
             Ask(Put(b"k", b"w", FIRST_OF_SECOND), BAD),
             Get(b"k", ONLY_V),
+            // the same behind the key's own pair
+            Ask(Put(b"k", b"w", FIRST_AND_THAT_OF_J), BAD),
+            Get(b"k", ONLY_V),
             // no entry
             Ask(Put(b"k", b"w", b"\x01"), BAD),
             Get(b"k", ONLY_V),

@@ -2,8 +2,9 @@
 
 use crate::exchanges::asking::go_as_expected;
 use crate::exchanges::steps::{
-    Ask, Del, Done, Exchange, FIRST, FIRST_OF_SECOND, FOURTH, Get, GetWith, Idle, NEW_VNODE, NONE,
-    NOTHING, OF_DEAD, PUTS_V_AND_W, Put, Refused, SECOND, Shows, THIRD, Tombstone, V, W,
+    Ask, Del, Done, Exchange, FIRST, FIRST_OF_SECOND, FOURTH, Get, GetWith, HasDead, Idle,
+    NEW_VNODE, NONE, NOTHING, OF_DEAD, PUTS_V_AND_W, Put, Refused, SECOND, Shows, THIRD, Tombstone,
+    V, W,
 };
 use vnode_core::Refusal;
 
@@ -53,6 +54,32 @@ const EXCHANGES: &[Exchange] = &[
         ],
         ..NEW_VNODE
     },
+    // A counter ahead, then an epoch that wasn't given: v stays, and has the next dot after it.
+    Exchange {
+        shows: "a delete by a context that runs ahead is refused, and changes nothing",
+        steps: &[
+            Ask(Put(b"k", b"v", NONE), Done),
+            Ask(Del(b"k", SECOND), Refused(Refusal::BadContext)),
+            Ask(Del(b"k", FIRST_OF_SECOND), Refused(Refusal::BadContext)),
+            Get(b"k", Shows(&[V], FIRST)),
+            HasDead(None, false),
+            Ask(Del(b"k", FIRST), Done),
+            HasDead(None, true),
+            GetWith(b"k", NONE, OF_DEAD, Shows(&[], SECOND)),
+        ],
+        ..NEW_VNODE
+    },
+    // The context has the key's pair and that of j, which the clock knows from then on.
+    Exchange {
+        shows: "a delete by a context of the key's pair and another key's covers what the first covers",
+        begin: PUTS_V_AND_W,
+        steps: &[
+            Ask(Put(b"j", b"v", NONE), Done),
+            Ask(Del(b"k", THAT_OF_J_AND_ITS_OWN), Done),
+            Get(b"k", Shows(&[Tombstone, W], THIRD_AND_THAT_OF_J)),
+        ],
+        ..NEW_VNODE
+    },
     // The second is at its life's next dot; a put then is a sibling beside it.
     Exchange {
         shows: "a dead key takes another tombstone",
@@ -74,6 +101,10 @@ const EXCHANGES: &[Exchange] = &[
 /// The first dot of the first epoch, and the first of the second.
 const THAT_OF_J_AND_ITS_OWN: &[u8] =
     b"\x02\0\0\0\0\0\x01\0\0\0\0\0\x01\0\0\0\0\0\0\0\x01\0\0\0\0\0\x01\0\0\0\0\0\x02\0\0\0\0\0\0\0\x01";
+
+/// The third dot of the first epoch, and the first of the second.
+const THIRD_AND_THAT_OF_J: &[u8] =
+    b"\x02\0\0\0\0\0\x01\0\0\0\0\0\x01\0\0\0\0\0\0\0\x03\0\0\0\0\0\x01\0\0\0\0\0\x02\0\0\0\0\0\0\0\x01";
 
 #[test]
 fn deletes_leave_tombstones(rt: HostRuntime) {

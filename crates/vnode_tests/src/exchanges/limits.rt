@@ -2,13 +2,16 @@
 
 use crate::exchanges::asking::{go_as_expected, taken_from};
 use crate::exchanges::steps::{
-    Ask, AskTimes, Counts, Done, Exchange, FIRST, Get, NEW_VNODE, NONE, NOTHING, Put,
+    Ask, AskTimes, Counts, Del, Done, Exchange, FIRST, Get, NEW_VNODE, NONE, NOTHING, Put,
     PutAfterOthers, Refused, Reply, SECOND, Shows, Step, V, W,
 };
 use std::process::Abort;
 use vnode_core::Refusal;
 
 const SIXTY_FOURTH: &[u8] = b"\x02\0\0\0\0\0\x01\0\0\0\0\0\x01\0\0\0\0\0\0\0\x40";
+
+/// The 64th dot of the second epoch.
+const SIXTY_FOURTH_OF_SECOND: &[u8] = b"\x02\0\0\0\0\0\x01\0\0\0\0\0\x02\0\0\0\0\0\0\0\x40";
 
 const SIXTY_FIFTH: &[u8] = b"\x02\0\0\0\0\0\x01\0\0\0\0\0\x01\0\0\0\0\0\0\0\x41";
 
@@ -43,6 +46,38 @@ const EXCHANGES: &[Exchange] = &[
             Ask(Put(b"k", b"w", FIRST), Refused(Refusal::TooManySiblings)),
             Ask(Put(b"k", b"w", SECOND), Done),
             Get(b"k", Counts(64, 21)),
+        ],
+        ..NEW_VNODE
+    },
+    // Its counter is that of the key's last dot, and its actor another.
+    Exchange {
+        shows: "a context of another key covers none of 64 siblings",
+        steps: &[
+            AskTimes(64, Put(b"k", b"v", NONE), Done),
+            AskTimes(64, Put(b"j", b"v", NONE), Done),
+            Ask(
+                Put(b"k", b"w", SIXTY_FOURTH_OF_SECOND),
+                Refused(Refusal::TooManySiblings),
+            ),
+            Ask(
+                Del(b"k", SIXTY_FOURTH_OF_SECOND),
+                Refused(Refusal::TooManySiblings),
+            ),
+            Get(b"k", SHOWS_64),
+        ],
+        ..NEW_VNODE
+    },
+    // A tombstone is a sibling: 63 stay beside the first, and 64 beside the next. One that has seen them all stays alone.
+    Exchange {
+        shows: "a delete by a context has the limit of siblings as well",
+        steps: &[
+            AskTimes(64, Put(b"k", b"v", NONE), Done),
+            Ask(Del(b"k", FIRST), Done),
+            Get(b"k", Counts(64, 21)),
+            Ask(Del(b"k", FIRST), Refused(Refusal::TooManySiblings)),
+            Get(b"k", Counts(64, 21)),
+            Ask(Del(b"k", SIXTY_FIFTH), Done),
+            Get(b"k", NOTHING),
         ],
         ..NEW_VNODE
     },
