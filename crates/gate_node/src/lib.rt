@@ -6,9 +6,10 @@
 //! events the caller published. A [`GateNode`] answers requests by them: a get under a right to
 //! read, a put or a delete under a right to write, and after each of these the first dead keys of
 //! that vnode are forgotten, so many at most, each under a right to write of its own. Each of these
-//! calls passes a [`Turnstile`] while it has its right. What was answered is counted by the node
-//! itself, once no right is held, and comes into its share and its book (`stats_book`) when the
-//! node is taken apart.
+//! calls passes a [`Turnstile`] while it has its right. What was answered is counted once no right is
+//! held, by the node's counter (`CountReplies` of `stats_book`). That of [`GateNode::new`] counts for
+//! a share of a book, which has its numbers when the node is taken apart. [`GateNode::counting_by`]
+//! takes any.
 //!
 //! What it means (`specs/GateStep`): each reply is the vnode machine's at one position of the
 //! history of the key's vnode, and not before what the caller had seen of it; an accepted put or
@@ -81,7 +82,7 @@
 //! the sibling register, which others ask too. All callers of one run see one history of each
 //! partition's primary.
 //!
-//! Unless the book was full, gets and puts are counted exactly. A book without another share is
+//! Unless there was no room, gets and puts are counted exactly. A book without another share is
 //! full only if a number would pass the last one. All other counts are never higher than the
 //! replies stand for. A put that finds no whole `Reserve` is refused by the first check that holds,
 //! and by `no memory` if none does.

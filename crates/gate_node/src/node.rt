@@ -91,9 +91,12 @@ impl<'a, W: Wait, T: Turnstile, C: CountReplies> Model for GateNode<'a, W, T, C>
     }) };
 }
 
-impl<'a, W: Wait, T: Turnstile, G: Ledger, P: Ledger, D: Ledger, E: Ledger, R: Ledger>
-    GateNode<'a, W, T, ReplyCounter<'a, G, P, D, E, R>>
-{
+impl<'a, W: Wait, T: Turnstile, G: Ledger, P: Ledger, D: Ledger, E: Ledger, R: Ledger> GateNode<
+    'a,
+    W,
+    T,
+    ReplyCounter<'a, G, P, D, E, R>,
+> {
     /// A node over these gates by these passes of them, which counts by this share of the book. Each of its calls passes
     /// the turnstile. It takes no memory.
     pub fn new(
@@ -109,7 +112,13 @@ impl<'a, W: Wait, T: Turnstile, G: Ledger, P: Ledger, D: Ledger, E: Ledger, R: L
         ensures passes { result.passes ≡ passes }
         ensures count { result.count ≡ record { counted = share; book_full = false } }
     {
-        GateNode::counting_by(rt, shared, ReplyCounter::new(book, share), passes, turnstile)
+        GateNode::counting_by(
+            rt,
+            shared,
+            ReplyCounter::new(book, share),
+            passes,
+            turnstile,
+        )
     }
 
     /// The share, with all that was counted, and the passes, for later nodes over the same book and the same gates; and whether there was no room

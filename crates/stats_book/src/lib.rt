@@ -6,18 +6,14 @@
 //! what the shares have counted (`sum_of`), whatever threads added them, in whatever order. No
 //! count is lost and none is made up.
 //!
-//! A [`Stock`] has all shares but those that are out: [`open_stock`] puts them there,
-//! [`Stock::take`] gives one that has counted nothing, and [`Stock::give_back`] keeps what it has
-//! counted. [`close_stock`] answers what all that came back have counted. [`open_stocks`] lays the
-//! shares into several stocks, so that each worker has its own.
-//!
-//! A [`ReplyCounter`] is what one session counts by: by itself, with no lock, until it is taken
-//! apart and its counts are in its share and in the book; and whether there was no room for some of
-//! them (`specs/Counter`).
+//! A session counts its replies by a [`CountReplies`], which also keeps whether there was no room
+//! for some of them (`specs/Counter`). A [`SessionCount`] counts by itself, with no book: who has
+//! served the session adds its numbers to [`Totals`] of his own, all five or none
+//! ([`Totals::add`]). A [`ReplyCounter`] counts for a share of a book, with no lock, until it is
+//! taken apart and its counts are in the share and in the book.
 //!
 //! What it costs: an addition to a book is one lock and one sum with a test for overflow.
-//! [`Book::new`] takes memory for the vector of shares, and [`open_stocks`] for that of stocks;
-//! nothing else does.
+//! [`Book::new`] takes memory for the vector of shares; nothing else does.
 //!
 //! How it is built: the numbers lie under one mutex, each beside the book of a ledger
 //! (`std::sync::ledger`). A share has one part of each of the five ledgers; whoever has all parts
@@ -33,13 +29,9 @@
 //! # Proved
 //!
 //! Beside what the head says: an addition raises the share and the book by the same amount, or says
-//! that the book is full. A `ReplyCounter` counts each reply and each reap, or keeps that there was
-//! no room. By `Book::new`, `Sums::add`, `Share::add`, `close`, `open_stock`, `open_stocks`,
-//! `close_stock`, `close_stocks`, and the calls of `ReplyCounter` and `Stock`.
-//!
-//! # Tested
-//!
-//! A stock gives out as many shares as it has.
+//! that the book is full. A `SessionCount` and a `ReplyCounter` count each reply and each reap, or
+//! keep that there was no room. By `Book::new`, `Sums::add`, `Share::add`, `close`, `Totals::add`,
+//! and the calls of `SessionCount` and `ReplyCounter`.
 //!
 //! # Open
 //!
