@@ -2,50 +2,55 @@
 
 mod answers;
 
-use control_text::{Command, Mistake, Word, mistake_in, read_command};
+use control_text::{Mistake, OperatorCommand, Word, mistake_in, read_command};
 
 /// A line, and the command that it asks for.
 struct Asked {
     shows: &'static str,
     line: &'static [u8],
-    asks: Option<Command>,
+    asks: Option<OperatorCommand>,
 }
 
 const GOOD: &[Asked] = &[
     Asked {
         shows: "help",
         line: b"help",
-        asks: Some(Command::Help),
+        asks: Some(OperatorCommand::Help),
     },
     Asked {
         shows: "which are diverted",
         line: b"diverted",
-        asks: Some(Command::Diverted),
+        asks: Some(OperatorCommand::Diverted),
     },
     Asked {
         shows: "totals",
         line: b"totals",
-        asks: Some(Command::Totals),
+        asks: Some(OperatorCommand::Totals),
+    },
+    Asked {
+        shows: "stats",
+        line: b"stats",
+        asks: Some(OperatorCommand::Stats),
     },
     Asked {
         shows: "a diversion",
         line: b"divert 3",
-        asks: Some(Command::Divert(3)),
+        asks: Some(OperatorCommand::Divert(3)),
     },
     Asked {
         shows: "a diversion of the first partition",
         line: b"divert 0",
-        asks: Some(Command::Divert(0)),
+        asks: Some(OperatorCommand::Divert(0)),
     },
     Asked {
         shows: "a diversion of the greatest index",
         line: b"divert 65535",
-        asks: Some(Command::Divert(65_535)),
+        asks: Some(OperatorCommand::Divert(65_535)),
     },
     Asked {
         shows: "a copy",
         line: b"copy 3 100",
-        asks: Some(Command::Copy {
+        asks: Some(OperatorCommand::Copy {
             partition: 3,
             budget: 100,
         }),
@@ -53,7 +58,7 @@ const GOOD: &[Asked] = &[
     Asked {
         shows: "a copy of one key",
         line: b"copy 0 1",
-        asks: Some(Command::Copy {
+        asks: Some(OperatorCommand::Copy {
             partition: 0,
             budget: 1,
         }),
@@ -61,7 +66,7 @@ const GOOD: &[Asked] = &[
     Asked {
         shows: "a copy of the greatest numbers",
         line: b"copy 65535 4294967295",
-        asks: Some(Command::Copy {
+        asks: Some(OperatorCommand::Copy {
             partition: 65_535,
             budget: 4_294_967_295,
         }),
@@ -69,22 +74,22 @@ const GOOD: &[Asked] = &[
     Asked {
         shows: "a return",
         line: b"return 10",
-        asks: Some(Command::Return(10)),
+        asks: Some(OperatorCommand::Return(10)),
     },
     Asked {
         shows: "a stop",
         line: b"stop",
-        asks: Some(Command::Stop),
+        asks: Some(OperatorCommand::Stop),
     },
     Asked {
         shows: "a carriage return behind a word doesn't count",
         line: b"stop\r",
-        asks: Some(Command::Stop),
+        asks: Some(OperatorCommand::Stop),
     },
     Asked {
         shows: "a carriage return behind a number doesn't count",
         line: b"copy 3 100\r",
-        asks: Some(Command::Copy {
+        asks: Some(OperatorCommand::Copy {
             partition: 3,
             budget: 100,
         }),
@@ -163,6 +168,16 @@ const BAD: &[Refused] = &[
         shows: "a number behind totals",
         line: b"totals 1",
         mistake: Mistake::Operands(Word::Totals),
+    },
+    Refused {
+        shows: "a number behind stats",
+        line: b"stats 1",
+        mistake: Mistake::Operands(Word::Stats),
+    },
+    Refused {
+        shows: "what stats and stop begin with",
+        line: b"st",
+        mistake: Mistake::NoSuchCommand,
     },
     Refused {
         shows: "another word",

@@ -3,4 +3,5 @@ mod Numbers
 mod Texts
 mod OneCommand
 mod Words
-mod Indices
+mod Partitions
+mod Groups

@@ -6,16 +6,16 @@ use Rattle.std.specs.Str.Parse.{AllDigits}
 use Rattle.std.proofs.lemmas.Fmt.{decimal_is_IsNumeral}
 use Rattle.std.proofs.lemmas.List.Folds.{list_all-append}
 use Rattle.std.proofs.lemmas.Str.Parse.{digit_from_value}
-use Rattle.control_text.specs.declared.command.Command.{Command}
-use Rattle.control_text.specs.declared.command.Command.TheVariants.{Help, Totals, Diverted, Divert, Copy, Return, Stop}
-use Rattle.control_text.specs.declared.refusal.Refusal.{Refusal}
+use Rattle.control_text.specs.declared.command.OperatorCommand.{OperatorCommand}
+use Rattle.control_text.specs.declared.command.OperatorCommand.TheVariants.{Help, Totals, Stats, Diverted, Divert, Copy, Return, Stop}
+use Rattle.control_text.specs.declared.refusal.OperatorRefusal.{OperatorRefusal}
 use Rattle.control_text.specs.declared.mistake.Word.{Word}
 use Rattle.control_text.specs.declared.mistake.Word.TheVariants as words
 use Rattle.control_text.specs.declared.mistake.Mistake.{Mistake}
 use Rattle.control_text.specs.declared.mistake.Mistake.TheVariants.{NoSuchCommand, BlankBehind, Operands}
-use Rattle.control_text.specs.declared.refusal.Refusal.TheVariants.{BadLine, LongLine, NoPartition, AlreadyDiverted, NotDiverted, LeftOver, NoMemory, GateStopped}
-use Rattle.control_text.specs.declared.answer.Answer.{Answer}
-use Rattle.control_text.specs.declared.answer.Answer.TheVariants.{Diverted, Copied, Returned, Refused}
+use Rattle.control_text.specs.declared.refusal.OperatorRefusal.TheVariants.{BadLine, LongLine, NoPartition, AlreadyDiverted, NotDiverted, LeftOver, NoMemory, GateStopped}
+use Rattle.control_text.specs.declared.answer.OperatorAnswer.{OperatorAnswer}
+use Rattle.control_text.specs.declared.answer.OperatorAnswer.TheVariants.{Diverted, Copied, Returned, Refused}
 use Rattle.control_text.specs.Commands.{command_text, IsInRange}
 use Rattle.control_text.specs.Answers.{usage_text, mistake_text, refusal_text, rest_word, answer_text, is_printable, IsOneLine, RefusalIsInRange, AnswerIsInRange}
 
@@ -44,9 +44,10 @@ about : (words : List ℕ) (partition : ℕ) (what : List ℕ) → IsOneLine wor
     → IsOneLine (words ++ decimal partition ++ what)
 about words partition what is then small = both (words ++ decimal partition) what (numbered words partition is small) then
 
-pub command_line : (command : Command) → IsInRange command → IsOneLine (command_text command)
+pub command_line : (command : OperatorCommand) → IsInRange command → IsOneLine (command_text command)
 command_line Help is = refl
 command_line Totals is = refl
+command_line Stats is = refl
 command_line Diverted is = refl
 command_line (Divert partition) is = numbered (codes "divert ") partition refl is
 command_line (Copy partition budget) is =
@@ -58,6 +59,7 @@ command_line Stop is = refl
 usage_line : (word : Word) → IsOneLine (usage_text word)
 usage_line words.Help = refl
 usage_line words.Totals = refl
+usage_line words.Stats = refl
 usage_line words.Diverted = refl
 usage_line words.Divert = refl
 usage_line words.Copy = refl
@@ -69,7 +71,7 @@ mistake_line NoSuchCommand = refl
 mistake_line BlankBehind = refl
 mistake_line (Operands word) = usage_line word
 
-refusal_line : (refusal : Refusal) → RefusalIsInRange refusal → IsOneLine (refusal_text refusal)
+refusal_line : (refusal : OperatorRefusal) → RefusalIsInRange refusal → IsOneLine (refusal_text refusal)
 refusal_line (BadLine mistake) is = both (codes "refused: ") (mistake_text mistake) refl (mistake_line mistake)
 refusal_line LongLine is = refl
 refusal_line (NoPartition partition) is = numbered (codes "refused: there is no partition ") partition refl is
@@ -83,7 +85,7 @@ rest_line : (left : Bool) → IsOneLine (rest_word left)
 rest_line true = refl
 rest_line false = refl
 
-pub answer_line : (answer : Answer) → AnswerIsInRange answer → IsOneLine (answer_text answer)
+pub answer_line : (answer : OperatorAnswer) → AnswerIsInRange answer → IsOneLine (answer_text answer)
 answer_line (Diverted partition) is = numbered (codes "diverted ") partition refl is
 answer_line (Copied partition keys left) is =
     let words = about (codes "copied ") partition (codes " keys ") refl refl is.0 in

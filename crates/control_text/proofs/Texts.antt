@@ -5,8 +5,8 @@ use Rattle.std.specs.List.{list_all}
 use Rattle.std.proofs.lemmas.Bool.{and_parts}
 use Rattle.std.proofs.lemmas.List.{append_cancel_left, append_cancel_right}
 use Rattle.std.proofs.lemmas.List.Folds.{list_all-append}
-use Rattle.control_text.specs.declared.command.Command.{Command}
-use Rattle.control_text.specs.declared.command.Command.TheVariants.{Help, Totals, Diverted, Divert, Copy, Return, Stop}
+use Rattle.control_text.specs.declared.command.OperatorCommand.{OperatorCommand}
+use Rattle.control_text.specs.declared.command.OperatorCommand.TheVariants.{Help, Totals, Stats, Diverted, Divert, Copy, Return, Stop}
 use Rattle.control_text.specs.Answers.{is_printable, IsOneLine}
 use Rattle.control_text.specs.Commands.{command_text, IsPartition, IsBudget, IsInRange, IsLineOf, ReadsCommand}
 use Rattle.control_text.specs.Reading.{ReadsText, ReadsBehind}
@@ -27,7 +27,7 @@ head_or other [] = other
 head_or other (x ∷ xs) = x
 
 -- a text with a carriage return behind it is no command's
-pub not_returned : (command : Command) (text : List ℕ) → IsInRange command → command_text command ≢ text ++ 13 ∷ []
+pub not_returned : (command : OperatorCommand) (text : List ℕ) → IsInRange command → command_text command ≢ text ++ 13 ∷ []
 not_returned command text is e =
     let one : list_all is_printable (text ++ 13 ∷ []) ≡ true = subst IsOneLine e (command_line command is) in
     let parts = and_parts (list_all is_printable text) (list_all is_printable (13 ∷ [])) (sym (list_all-append is_printable text (13 ∷ [])) ∙ one) in
@@ -35,14 +35,14 @@ not_returned command text is e =
     cc unlike
 
 -- a line that ends in a carriage return is read as what stands before it
-pub returned_read : (line text : List ℕ) (r : Option Command) → line ≡ text ++ 13 ∷ [] → ReadsText text r → ReadsCommand line r
+pub returned_read : (line text : List ℕ) (r : Option OperatorCommand) → line ≡ text ++ 13 ∷ [] → ReadsText text r → ReadsCommand line r
 returned_read line text (Some command) whole reads = record {
   text = inr (whole ∙ ap (λ t. t ++ 13 ∷ []) reads.whole);
   in_range = reads.in_range;
 }
 returned_read line text None whole reads = λ command asks. by command asks.in_range asks.text
   where
-    by : (command : Command) → IsInRange command → ¬ (IsLineOf (command_text command) line)
+    by : (command : OperatorCommand) → IsInRange command → ¬ (IsLineOf (command_text command) line)
     by command is (inl e) = not_returned command text is (sym e ∙ whole)
     by command is (inr e) =
         reads command (record { whole = append_cancel_right text (command_text command) (13 ∷ []) (sym whole ∙ e); in_range = is })
@@ -59,9 +59,10 @@ pub copy_refused : (operands : List ℕ)
     → ReadsBehind (codes "copy ") operands None
 copy_refused operands none = λ command is. by command is.in_range is.whole
   where
-    by : (command : Command) → IsInRange command → codes "copy " ++ operands ≢ command_text command
+    by : (command : OperatorCommand) → IsInRange command → codes "copy " ++ operands ≢ command_text command
     by Help is e = unlike 99 104 _ _ refl e
     by Totals is e = unlike 99 116 _ _ refl e
+    by Stats is e = unlike 99 115 _ _ refl e
     by Diverted is e = unlike 99 100 _ _ refl e
     by (Divert partition) is e = unlike 99 100 _ _ refl e
     by (Copy partition budget) is e =

@@ -2,7 +2,7 @@
 use Rattle.std.proofs.Common.{◌≡◌, ℕ, List, [], ◌∷◌, ◌++◌, Bool, true, false, IsTrue, codes, sym, ap, subst, ◌∙◌, inl, inr}
 use Rattle.std.proofs.lemmas.List.{append_cancel_left, append-nil}
 use Rattle.control_text.specs.declared.mistake.Word.{Word}
-use Rattle.control_text.specs.declared.mistake.Word.TheVariants.{Help, Totals, Diverted, Divert, Copy, Return, Stop}
+use Rattle.control_text.specs.declared.mistake.Word.TheVariants.{Help, Totals, Stats, Diverted, Divert, Copy, Return, Stop}
 use Rattle.control_text.specs.Mistakes.{word_text, EndsWord, BeginsWith}
 
 -- a text begins with the word before what ends it
@@ -30,13 +30,14 @@ pub refuted : (b : Bool) → IsTrue b → b ≡ false → ⊥
 refuted b is other = never (subst IsTrue other is)
 
 -- where a text begins with none of the words, it begins with no word
-pub no_word : (text : List ℕ) → (BeginsWith (codes "help") text → ⊥) → (BeginsWith (codes "totals") text → ⊥) → (BeginsWith (codes "diverted") text → ⊥)
-    → (BeginsWith (codes "divert") text → ⊥) → (BeginsWith (codes "copy") text → ⊥) → (BeginsWith (codes "return") text → ⊥) → (BeginsWith (codes "stop") text → ⊥)
+pub no_word : (text : List ℕ) → (BeginsWith (codes "help") text → ⊥) → (BeginsWith (codes "totals") text → ⊥) → (BeginsWith (codes "stats") text → ⊥)
+    → (BeginsWith (codes "diverted") text → ⊥) → (BeginsWith (codes "divert") text → ⊥) → (BeginsWith (codes "copy") text → ⊥) → (BeginsWith (codes "return") text → ⊥) → (BeginsWith (codes "stop") text → ⊥)
     → (word : Word) → BeginsWith (word_text word) text → ⊥
-no_word text help totals diverted divert copy back stop Help = help
-no_word text help totals diverted divert copy back stop Totals = totals
-no_word text help totals diverted divert copy back stop Diverted = diverted
-no_word text help totals diverted divert copy back stop Divert = divert
-no_word text help totals diverted divert copy back stop Copy = copy
-no_word text help totals diverted divert copy back stop Return = back
-no_word text help totals diverted divert copy back stop Stop = stop
+no_word text help totals stats diverted divert copy back stop Help = help
+no_word text help totals stats diverted divert copy back stop Totals = totals
+no_word text help totals stats diverted divert copy back stop Stats = stats
+no_word text help totals stats diverted divert copy back stop Diverted = diverted
+no_word text help totals stats diverted divert copy back stop Divert = divert
+no_word text help totals stats diverted divert copy back stop Copy = copy
+no_word text help totals stats diverted divert copy back stop Return = back
+no_word text help totals stats diverted divert copy back stop Stop = stop

@@ -3,3 +3,4 @@ pub mod Answers
 pub mod Reading
 pub mod Mistakes
 pub mod Diverted
+pub mod Figures

@@ -1,7 +1,7 @@
 -- What is wrong with a line that asks for no command.
 use Rattle.std.specs.Prelude.{◌≡◌, ℕ, ◌⊎◌, List, [], ◌∷◌, ◌++◌, Option, Some, None, codes}
 use Rattle.control_text.specs.declared.mistake.Word.{Word}
-use Rattle.control_text.specs.declared.mistake.Word.TheVariants.{Help, Totals, Diverted, Divert, Copy, Return, Stop}
+use Rattle.control_text.specs.declared.mistake.Word.TheVariants.{Help, Totals, Stats, Diverted, Divert, Copy, Return, Stop}
 use Rattle.control_text.specs.declared.mistake.Mistake.{Mistake}
 use Rattle.control_text.specs.declared.mistake.Mistake.TheVariants.{NoSuchCommand, BlankBehind, Operands}
 use Rattle.control_text.specs.Commands.{IsLineOf}
@@ -10,6 +10,7 @@ use Rattle.control_text.specs.Commands.{IsLineOf}
 abbrev pub word_text : Word → List ℕ
 word_text Help = codes "help"
 word_text Totals = codes "totals"
+word_text Stats = codes "stats"
 word_text Diverted = codes "diverted"
 word_text Divert = codes "divert"
 word_text Copy = codes "copy"

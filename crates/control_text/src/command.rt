@@ -2,11 +2,13 @@
 
 /// What an operator asks a serving node for.
 #[derive(Clone, Copy, Drop, PartialEq, Eq)]
-pub enum Command {
+pub enum OperatorCommand {
     /// What the commands are: `help`.
     Help,
     /// How many commands were served, and how much is stored: `totals`.
     Totals,
+    /// What was done by now, without a pause: `stats`.
+    Stats,
     /// Which partitions are diverted: `diverted`.
     Diverted,
     /// That the partition of this index, from 0, is diverted to a fallback: `divert P`.

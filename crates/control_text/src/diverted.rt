@@ -1,11 +1,12 @@
-//! Which partitions are diverted.
+//! Which partitions are diverted, and since when.
 
-ghost use Rattle.std.specs.Prelude.{◌≡◌, ◌≤◌, ℕ, [], OnOk, cond, slice_set};
+ghost use Rattle.std.specs.Prelude.{◌≡◌, ◌≤◌, None, IfOk, OnOk, codes, replicate, slice_set};
 ghost use Rattle.std.specs.Io.KnownBytes.{Appends};
-ghost use Rattle.control_text.specs.Diverted.{after, count_diverted, diverted_line};
-ghost use Rattle.control_text.specs.Diverted.{index_text, indices_text};
+ghost use Rattle.control_text.specs.Diverted.{after, behind, count_diverted, count_one};
+ghost use Rattle.control_text.specs.Diverted.{diverted_line, partition_text, partitions_text};
 
-use crate::answer::Answer;
+use crate::answer::OperatorAnswer;
+use std::alloc::{AllocError, Global};
 use std::io;
 use std::io::Write;
 use std::marker::Model;
@@ -13,119 +14,145 @@ use std::marker::Model;
 /// How many partitions are kept: as many as a ring may have.
 const MAX_PARTITIONS: usize = 1_024;
 
-/// Which partitions are diverted, by what was answered so far: those that `diverted P` named, and no
-/// `returned P` behind that.
+/// Which partitions are diverted, and since which second, by what was answered so far: those that
+/// `diverted P` named, and no `returned P` behind that. The seconds are of one clock, the caller's.
 ///
 /// ```text
-/// none yet            diverted now:
-/// diverted 17
-/// diverted 3          diverted now: 3 17
-/// returned 3          diverted now: 17
+/// at 40     none yet            diverted now:
+/// at 45     diverted 17
+/// at 333    diverted 3
+/// at 345                        diverted now: 3 for 12 s, 17 for 300 s
+/// at 346    returned 3          diverted now: 17 for 301 s
 /// ```
+///
+/// The seconds stand on the heap: 16 KiB, which are taken once.
 #[derive(Drop)]
 pub struct DivertedPartitions {
-    are: [bool; MAX_PARTITIONS],
+    /// Since which second each partition is diverted.
+    begun: Vec<Option<u64>>,
 }
 
 impl Model for DivertedPartitions {
-    ghost use Rattle.std.specs.Prelude.{Bool, List};
+    ghost use Rattle.std.specs.Prelude.{ℕ, List, Option};
 
-    ghost Value = { List Bool };
+    ghost Value = { List (Option ℕ) };
 
-    ghost view = { λ partitions. partitions.are };
+    ghost view = { λ partitions. partitions.begun.items };
 }
 
-/// Keeps whether the partition of an index is diverted, where there is one.
-fn set_at(are: &mut [bool], index: usize, is: bool)
-    ensures { are.new ≡ slice_set are.old index is }
+/// Keeps since when the partition of an index is diverted, where there is one.
+fn set_at(begun: &mut [Option<u64>], index: usize, began: Option<u64>)
+    ensures { begun.new ≡ slice_set begun.old index began }
 {
-    if index >= are.len() {
+    if index >= begun.len() {
         return;
     }
-    are[index] = is;
+    begun[index] = began;
 }
 
-/// Writes a partition's index, where it is diverted.
-fn write_index<W: Write>(writer: &mut W, is: bool, index: usize) -> io::Result<()>
-    ensures { OnOk result
-        (Appends (W.contents writer.old) (W.contents writer.new) (index_text is index)) }
+/// Writes a partition's index, and for how many seconds it is diverted, where it is.
+fn write_partition<W: Write>(
+    writer: &mut W,
+    before: &str,
+    index: usize,
+    began: Option<u64>,
+    now: u64,
+) -> io::Result<()>
+    ensures { OnOk result (Appends (W.contents writer.old) (W.contents writer.new)
+        (partition_text now before.now index began)) }
 {
-    if is {
-        write!(writer, " {index}")
-    } else {
-        Ok(())
+    match began {
+        Some(began) => {
+            let seconds = now.saturating_sub(began);
+            write!(writer, "{before}{index} for {seconds} s")
+        }
+        None => Ok(()),
     }
 }
 
-/// Writes the indices of those that are diverted.
-fn write_indices<W: Write>(writer: &mut W, are: &[bool]) -> io::Result<()>
-    ensures { OnOk result
-        (Appends (W.contents writer.old) (W.contents writer.new) (indices_text 0 are.now)) }
+/// What stands before the next partition that is diverted, behind this one.
+fn behind(before: &'static str, began: Option<u64>) -> &'static str
+    ensures { result.now ≡ behind before.now began }
+{
+    match began {
+        Some(_) => ", ",
+        None => before,
+    }
+}
+
+/// Writes those that are diverted.
+fn write_partitions<W: Write>(writer: &mut W, begun: &[Option<u64>], now: u64) -> io::Result<()>
+    ensures { OnOk result (Appends (W.contents writer.old) (W.contents writer.new)
+        (partitions_text now 0 (codes " ") begun.now)) }
 {
     let mut index = 0usize;
-    for is in are {
-        write_index(writer, *is, index)?;
+    let mut before = " ";
+    for began in begun {
+        write_partition(writer, before, index, *began, now)?;
+        before = behind(before, *began);
         index += 1;
     }
     Ok(())
 }
 
 /// 1 for a partition that is diverted, and 0 for another.
-fn count_one(is: bool) -> usize
-    ensures one { result ≡ cond is 1 0 }
+fn count_one(began: Option<u64>) -> usize
+    ensures one { result ≡ count_one began }
     ensures few { result ≤ 1 }
 {
-    if is { 1 } else { 0 }
+    match began {
+        Some(_) => 1,
+        None => 0,
+    }
 }
 
 /// How many are diverted.
-fn count_in(are: &[bool]) -> usize
-    ensures { result ≡ count_diverted are.now }
+fn count_in(begun: &[Option<u64>]) -> usize
+    ensures { result ≡ count_diverted begun.now }
 {
     let mut count = 0usize;
-    for is in are {
-        count += count_one(*is);
+    for began in begun {
+        count += count_one(*began);
     }
     count
 }
 
 /// Writes the answer to `diverted`.
-fn write_diverted<W: Write>(writer: &mut W, are: &[bool]) -> io::Result<()>
+fn write_diverted<W: Write>(writer: &mut W, begun: &[Option<u64>], now: u64) -> io::Result<()>
     ensures { OnOk result
-        (Appends (W.contents writer.old) (W.contents writer.new) (diverted_line are.now)) }
+        (Appends (W.contents writer.old) (W.contents writer.new) (diverted_line now begun.now)) }
 {
     write!(writer, "diverted now:")?;
-    write_indices(writer, are)?;
+    write_partitions(writer, begun, now)?;
     writeln!(writer)?;
     Ok(())
 }
 
 impl DivertedPartitions {
-    /// None is diverted.
-    pub fn none() -> DivertedPartitions
-        ensures none { (index : ℕ) → indices_text index result ≡ [] }
-        ensures count { count_diverted result ≡ 0 }
+    /// None is diverted. It takes memory for all that may be, and no other call takes any.
+    pub fn none(alloc: Global) -> Result<DivertedPartitions, AllocError>
+        ensures none { IfOk result (λ partitions. partitions ≡ replicate 1024 None) }
     {
-        DivertedPartitions {
-            are: [false; MAX_PARTITIONS],
-        }
+        Ok(DivertedPartitions {
+            begun: vec![in alloc; None; MAX_PARTITIONS]?,
+        })
     }
 
-    /// Keeps whether a partition is diverted.
-    fn set(&mut self, partition: u16, is: bool)
-        ensures { self.new ≡ slice_set self.old partition is }
+    /// Keeps since when a partition is diverted.
+    fn set(&mut self, partition: u16, began: Option<u64>)
+        ensures { self.new ≡ slice_set self.old partition began }
     {
-        set_at(&mut self.are, usize::from(partition), is);
+        set_at(self.begun.as_mut_slice(), usize::from(partition), began);
     }
 
-    /// Keeps what an answer says of a partition.
-    pub fn note(&mut self, answer: Answer)
-        ensures { self.new ≡ after self.old answer }
+    /// Keeps what an answer says of a partition. It is this second now.
+    pub fn note(&mut self, answer: OperatorAnswer, now: u64)
+        ensures { self.new ≡ after self.old answer now }
     {
         match answer {
-            Answer::Diverted(partition) => self.set(partition, true),
-            Answer::Returned(partition) => self.set(partition, false),
-            Answer::Copied { .. } | Answer::Refused(_) => {}
+            OperatorAnswer::Diverted(partition) => self.set(partition, Some(now)),
+            OperatorAnswer::Returned(partition) => self.set(partition, None),
+            OperatorAnswer::Copied { .. } | OperatorAnswer::Refused(_) => {}
         }
     }
 
@@ -133,15 +160,16 @@ impl DivertedPartitions {
     pub fn count(&self) -> usize
         ensures { result ≡ count_diverted self.now }
     {
-        count_in(&self.are)
+        count_in(self.begun.as_slice())
     }
 
-    /// Writes the answer to `diverted`: a line of the indices of those that are, in their order. On an
-    /// error of the writer a part of it may have been written. It takes no memory of its own.
-    pub fn write_line<W: Write>(&self, writer: &mut W) -> io::Result<()>
+    /// Writes the answer to `diverted`: a line of the indices of those that are, in their order, and for how
+    /// many seconds each is, now that it is this second: 0 where the clock went back. On an error of the writer
+    /// a part of it may have been written. It takes no memory of its own.
+    pub fn write_line<W: Write>(&self, writer: &mut W, now: u64) -> io::Result<()>
         ensures line { OnOk result
-            (Appends (W.contents writer.old) (W.contents writer.new) (diverted_line self.now)) }
+            (Appends (W.contents writer.old) (W.contents writer.new) (diverted_line now self.now)) }
     {
-        write_diverted(writer, &self.are)
+        write_diverted(writer, self.begun.as_slice(), now)
     }
 }

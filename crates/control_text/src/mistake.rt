@@ -12,6 +12,8 @@ pub enum Word {
     Help,
     /// `totals`, which stands alone.
     Totals,
+    /// `stats`, which stands alone.
+    Stats,
     /// `diverted`, which stands alone.
     Diverted,
     /// `divert`, before a partition.
@@ -43,6 +45,7 @@ impl Word {
         match self {
             Word::Help => "help takes no number",
             Word::Totals => "totals takes no number",
+            Word::Stats => "stats takes no number",
             Word::Diverted => "diverted takes no number",
             Word::Divert => {
                 "divert takes one number, a partition's, from 0 to 65535, as in: divert 3"
@@ -110,6 +113,9 @@ fn word_of(text: &[u8]) -> Option<Word>
     }
     if begins_with(text, b"totals") {
         return Some(Word::Totals);
+    }
+    if begins_with(text, b"stats") {
+        return Some(Word::Stats);
     }
     if begins_with(text, b"diverted") {
         return Some(Word::Diverted);

@@ -10,7 +10,7 @@ use std::io::Write;
 
 /// Why a command wasn't done. A number is the index of the partition that the command named.
 #[derive(Clone, Copy, Drop, PartialEq, Eq)]
-pub enum Refusal {
+pub enum OperatorRefusal {
     /// The line asks for no command: `refused: ` and what is wrong with it, as in
     /// `refused: no such command; help lists them`.
     BadLine(Mistake),
@@ -38,7 +38,7 @@ fn write_about<W: Write>(writer: &mut W, partition: u16, what: &str) -> io::Resu
     writeln!(writer, "refused: partition {partition}{what}")
 }
 
-impl Refusal {
+impl OperatorRefusal {
     /// Writes the refusal's line, its line feed (byte 0a) among it. On an error of the writer a part of
     /// it may have been written. It takes no memory of its own.
     pub fn write_line<W: Write>(self, writer: &mut W) -> io::Result<()>
@@ -46,21 +46,32 @@ impl Refusal {
             (Appends (W.contents writer.old) (W.contents writer.new) (refusal_line self)) }
     {
         match self {
-            Refusal::BadLine(mistake) => {
+            OperatorRefusal::BadLine(mistake) => {
                 let what = mistake.text();
                 writeln!(writer, "refused: {what}")
             }
-            Refusal::LongLine => writeln!(writer, "refused: the line has more than 64 bytes"),
-            Refusal::NoPartition(index) => {
+            OperatorRefusal::LongLine => writeln!(
+                writer,
+                "refused: the line has more than 64 bytes"
+            ),
+            OperatorRefusal::NoPartition(index) => {
                 writeln!(writer, "refused: there is no partition {index}")
             }
-            Refusal::AlreadyDiverted(index) => write_about(writer, index, " is diverted already"),
-            Refusal::NotDiverted(index) => write_about(writer, index, " isn't diverted"),
-            Refusal::LeftOver(index) => {
+            OperatorRefusal::AlreadyDiverted(index) => write_about(
+                writer,
+                index,
+                " is diverted already",
+            ),
+            OperatorRefusal::NotDiverted(index) => write_about(writer, index, " isn't diverted"),
+            OperatorRefusal::LeftOver(index) => {
                 write_about(writer, index, " has keys left to be copied")
             }
-            Refusal::NoMemory => writeln!(writer, "refused: no memory"),
-            Refusal::GateStopped(index) => write_about(writer, index, "'s gate has stopped"),
+            OperatorRefusal::NoMemory => writeln!(writer, "refused: no memory"),
+            OperatorRefusal::GateStopped(index) => write_about(
+                writer,
+                index,
+                "'s gate has stopped",
+            ),
         }
     }
 }

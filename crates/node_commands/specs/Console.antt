@@ -7,10 +7,10 @@ use Rattle.handoff.specs.declared.copying.Copied.{Copied as CopyBack}
 use Rattle.handoff.specs.declared.fault.HandoffFault.{HandoffFault}
 use Rattle.handoff.specs.declared.fault.HandoffFault.TheVariants as faults
 use Rattle.handoff.specs.declared.fault.Returned.{Returned as ReturnPasses}
-use Rattle.control_text.specs.declared.answer.Answer.{Answer}
-use Rattle.control_text.specs.declared.answer.Answer.TheVariants.{Diverted, Copied, Returned, Refused}
-use Rattle.control_text.specs.declared.refusal.Refusal.{Refusal}
-use Rattle.control_text.specs.declared.refusal.Refusal.TheVariants.{NoPartition, AlreadyDiverted, NotDiverted, LeftOver, NoMemory, GateStopped}
+use Rattle.control_text.specs.declared.answer.OperatorAnswer.{OperatorAnswer}
+use Rattle.control_text.specs.declared.answer.OperatorAnswer.TheVariants.{Diverted, Copied, Returned, Refused}
+use Rattle.control_text.specs.declared.refusal.OperatorRefusal.{OperatorRefusal}
+use Rattle.control_text.specs.declared.refusal.OperatorRefusal.TheVariants.{NoPartition, AlreadyDiverted, NotDiverted, LeftOver, NoMemory, GateStopped}
 use Rattle.gate_node.specs.Gates.{Gates, handoff_of}
 use Rattle.key_counts.specs.declared.counts.KeyCounts.{KeyCounts}
 use Rattle.key_counts.specs.declared.partitions.PartitionCounts.{PartitionCounts}
@@ -19,7 +19,7 @@ use Rattle.session_pool.specs.Resuming.{IsOnceDiverted}
 use Rattle.node_commands.specs.declared.progress.Paused.{Paused}
 
 -- why a command that names this partition wasn't done
-abbrev pub refusal_of : ℕ → HandoffFault → Refusal
+abbrev pub refusal_of : ℕ → HandoffFault → OperatorRefusal
 refusal_of partition faults.AlreadyDiverted = AlreadyDiverted partition
 refusal_of partition (faults.NotDiverted seen) = NotDiverted partition
 refusal_of partition (faults.LeftOver passes) = LeftOver partition
@@ -31,7 +31,7 @@ abbrev pub IsStored : HandoffView → KeyCounts → Type 0
 IsStored handoff counts = (partitions : List PartitionCounts) × AreCounted handoff partitions × (counts ≡ total_in partitions)
 
 -- keys were copied back, so many, and some are left or none; or why not
-abbrev pub AnswersCopy : HandoffView → (partition budget : ℕ) → Answer → Type 0
+abbrev pub AnswersCopy : HandoffView → (partition budget : ℕ) → OperatorAnswer → Type 0
 AnswersCopy handoff partition budget (Copied named keys left) =
     (named ≡ partition) × (copied : CopyBack) × IsCopiedBack handoff partition budget copied × (keys ≡ copied.keys) × (left ≡ true ↔ 0 < copied.left)
 AnswersCopy handoff partition budget (Refused refusal) = (fault : HandoffFault) × IsCopyFault handoff partition fault × (refusal ≡ refusal_of partition fault)
@@ -39,19 +39,19 @@ AnswersCopy handoff partition budget (Diverted named) = ⊥
 AnswersCopy handoff partition budget (Returned named) = ⊥
 
 -- the diversion has ended; or why not
-abbrev pub AnswersReturn : HandoffView → (partition : ℕ) → Answer → Type 0
+abbrev pub AnswersReturn : HandoffView → (partition : ℕ) → OperatorAnswer → Type 0
 AnswersReturn handoff partition (Returned named) = (named ≡ partition) × (passes : ReturnPasses) × HasReturned handoff partition passes
 AnswersReturn handoff partition (Refused refusal) = (fault : HandoffFault) × IsReturnFault handoff partition fault × (refusal ≡ refusal_of partition fault)
 AnswersReturn handoff partition (Copied named keys left) = ⊥
 AnswersReturn handoff partition (Diverted named) = ⊥
 
 -- why a partition isn't diverted: there is none of this index, or its diversion was refused
-abbrev pub IsDivertRefusal : Gates → (partition : ℕ) → Refusal → Type 0
+abbrev pub IsDivertRefusal : Gates → (partition : ℕ) → OperatorRefusal → Type 0
 IsDivertRefusal gates partition refusal = ((partition < 2 ^ gates.index_bits → ⊥) × (refusal ≡ NoPartition partition))
     ⊎ ((fault : HandoffFault) × IsDivertRefused (handoff_of gates) partition fault × (refusal ≡ refusal_of partition fault))
 
 -- the partition is diverted, and nothing else was changed; or nothing was, and why
-abbrev pub AnswersDivert : (old : Paused) → (partition : ℕ) → (new : Paused) → Answer → Type 0
+abbrev pub AnswersDivert : (old : Paused) → (partition : ℕ) → (new : Paused) → OperatorAnswer → Type 0
 AnswersDivert old partition new (Diverted named) = (named ≡ partition) × IsOnceDiverted partition old.shared new.shared × (new.progress ≡ old.progress)
 AnswersDivert old partition new (Refused refusal) = (new.shared ≡ old.shared) × (new.progress ≡ old.progress) × IsDivertRefusal old.shared partition refusal
 AnswersDivert old partition new (Copied named keys left) = ⊥

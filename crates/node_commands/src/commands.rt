@@ -6,7 +6,7 @@ ghost use Rattle.handoff_tracks.specs.Tracks.{HaveTracks};
 ghost use Rattle.node_commands.specs.Console.{AnswersCopy, AnswersReturn, refusal_of};
 
 use crate::console::{Console, Heard};
-use control_text::{Answer, Command, Refusal};
+use control_text::{OperatorAnswer, OperatorCommand, OperatorRefusal};
 use gate_node::Shared;
 use handoff::{Handoff, HandoffFault};
 use handoff_tracks::HandoffTracks;
@@ -37,15 +37,15 @@ pub(crate) enum Asked {
 }
 
 /// Why a command that names this partition wasn't done.
-pub(crate) fn refusal_of(partition: u16, fault: &HandoffFault) -> Refusal
+pub(crate) fn refusal_of(partition: u16, fault: &HandoffFault) -> OperatorRefusal
     ensures { result ≡ refusal_of partition fault.now }
 {
     match fault {
-        HandoffFault::AlreadyDiverted => Refusal::AlreadyDiverted(partition),
-        HandoffFault::NotDiverted(_) => Refusal::NotDiverted(partition),
-        HandoffFault::LeftOver(_) => Refusal::LeftOver(partition),
-        HandoffFault::NoMemory => Refusal::NoMemory,
-        HandoffFault::GateStopped => Refusal::GateStopped(partition),
+        HandoffFault::AlreadyDiverted => OperatorRefusal::AlreadyDiverted(partition),
+        HandoffFault::NotDiverted(_) => OperatorRefusal::NotDiverted(partition),
+        HandoffFault::LeftOver(_) => OperatorRefusal::LeftOver(partition),
+        HandoffFault::NoMemory => OperatorRefusal::NoMemory,
+        HandoffFault::GateStopped => OperatorRefusal::GateStopped(partition),
     }
 }
 
@@ -64,19 +64,19 @@ fn copy<X: Wait>(
     tracks: &mut HandoffTracks,
     partition: u16,
     budget: u32,
-) -> Answer
+) -> OperatorAnswer
     requires partition { partition < 2 ^ handoff.now.index_bits }
     requires tracks { HaveTracks handoff.now tracks.old }
     ensures answers { AnswersCopy handoff.now partition budget result }
     ensures tracks { HaveTracks handoff.now tracks.new }
 {
     match tracks.copy_back(rt, alloc, handoff, partition, budget) {
-        Ok(copied) => Answer::Copied {
+        Ok(copied) => OperatorAnswer::Copied {
             partition,
             keys: u64::from(copied.keys),
             left: copied.left > 0,
         },
-        Err(fault) => Answer::Refused(refusal_of(partition, &fault)),
+        Err(fault) => OperatorAnswer::Refused(refusal_of(partition, &fault)),
     }
 }
 
@@ -87,15 +87,15 @@ fn finish_return<X: Wait>(
     handoff: &Handoff,
     tracks: &mut HandoffTracks,
     partition: u16,
-) -> Answer
+) -> OperatorAnswer
     requires partition { partition < 2 ^ handoff.now.index_bits }
     requires tracks { HaveTracks handoff.now tracks.old }
     ensures answers { AnswersReturn handoff.now partition result }
     ensures tracks { HaveTracks handoff.now tracks.new }
 {
     match tracks.finish_return(rt, alloc, handoff, partition) {
-        Ok(()) => Answer::Returned(partition),
-        Err(fault) => Answer::Refused(refusal_of(partition, &fault)),
+        Ok(()) => OperatorAnswer::Returned(partition),
+        Err(fault) => OperatorAnswer::Refused(refusal_of(partition, &fault)),
     }
 }
 
@@ -112,23 +112,23 @@ fn wait_for_workers<X: Clock + Wait>(rt: &X, stop: &Stop, has_ended: &AtomicBool
 
 impl<C: Read + Write> Console<C> {
     /// Has the workers paused for this, and returns it; refuses it where too little memory is kept back by which they could be started again.
-    fn pause_for<L: Log>(&mut self, rt: &L, stop: &Stop, asked: Asked) -> Option<Asked> {
+    fn pause_for<X: Clock + Log>(&mut self, rt: &X, stop: &Stop, asked: Asked) -> Option<Asked> {
         if stop.pause_if_kept() {
             return Some(asked);
         }
-        self.answer(rt, Answer::Refused(Refusal::NoMemory));
+        self.answer(rt, OperatorAnswer::Refused(OperatorRefusal::NoMemory));
         None
     }
 
     /// Does a command on a partition that there is: one that needs no pause.
-    fn obey_at<X: Log + Wait>(
+    fn obey_at<X: Clock + Log + Wait>(
         &mut self,
         rt: &X,
         alloc: Global,
         shared: &Shared,
         stop: &Stop,
         tracks: &mut HandoffTracks,
-        command: Command,
+        command: OperatorCommand,
         partition: u16,
     ) -> Option<Asked>
         requires partition { partition < 2 ^ shared.now.index_bits }
@@ -136,60 +136,71 @@ impl<C: Read + Write> Console<C> {
         ensures tracks { HaveTracks (handoff_of shared.now) tracks.new }
     {
         match command {
-            Command::Divert(_) => return self.pause_for(rt, stop, Asked::Divert(partition)),
-            Command::Copy { budget, .. } => {
+            OperatorCommand::Divert(_) => return self.pause_for(rt, stop, Asked::Divert(partition)),
+            OperatorCommand::Copy { budget, .. } => {
                 let answer = copy(rt, alloc, shared.handoff(), tracks, partition, budget);
                 self.answer(rt, answer);
             }
-            Command::Return(_) => {
+            OperatorCommand::Return(_) => {
                 let answer = finish_return(rt, alloc, shared.handoff(), tracks, partition);
                 self.answer(rt, answer);
             }
-            Command::Help | Command::Totals | Command::Diverted | Command::Stop => {}
+            OperatorCommand::Help
+            | OperatorCommand::Totals
+            | OperatorCommand::Stats
+            | OperatorCommand::Diverted
+            | OperatorCommand::Stop => {}
         }
         None
     }
 
     /// Does a command; where the workers are to be paused or stopped for it, says so to them, and returns what for.
-    fn obey<X: Log + Wait>(
+    fn obey<X: Clock + Log + Wait>(
         &mut self,
         rt: &X,
         alloc: Global,
         shared: &Shared,
         stop: &Stop,
         tracks: &mut HandoffTracks,
-        command: Command,
+        command: OperatorCommand,
     ) -> Option<Asked>
         requires { HaveTracks (handoff_of shared.now) tracks.old }
         ensures { HaveTracks (handoff_of shared.now) tracks.new }
     {
         let partition = match command {
-            Command::Help => {
+            OperatorCommand::Help => {
                 self.tell_help();
                 return None;
             }
-            Command::Totals => return self.pause_for(rt, stop, Asked::Totals),
-            Command::Diverted => {
-                self.tell_diverted();
+            OperatorCommand::Totals => return self.pause_for(rt, stop, Asked::Totals),
+            OperatorCommand::Stats => {
+                self.tell_stats(rt);
                 return None;
             }
-            Command::Stop => {
+            OperatorCommand::Diverted => {
+                self.tell_diverted(rt);
+                return None;
+            }
+            OperatorCommand::Stop => {
                 info!(rt; "the operator stops the node");
                 stop.raise();
                 return Some(Asked::Stop);
             }
-            Command::Divert(partition) | Command::Return(partition) => partition,
-            Command::Copy { partition, .. } => partition,
+            OperatorCommand::Divert(partition) | OperatorCommand::Return(partition) => partition,
+            OperatorCommand::Copy { partition, .. } => partition,
         };
         if has_partition(shared, partition) {
             return self.obey_at(rt, alloc, shared, stop, tracks, command, partition);
         }
-        self.answer(rt, Answer::Refused(Refusal::NoPartition(partition)));
+        self.answer(
+            rt,
+            OperatorAnswer::Refused(OperatorRefusal::NoPartition(partition)),
+        );
         None
     }
 
     /// Does what the line that has come asks for, or answers what is wrong with it.
-    fn heed_line<X: Log + Wait>(
+    fn heed_line<X: Clock + Log + Wait>(
         &mut self,
         rt: &X,
         alloc: Global,
@@ -203,7 +214,7 @@ impl<C: Read + Write> Console<C> {
         match self.take_command() {
             Ok(command) => self.obey(rt, alloc, shared, stop, tracks, command),
             Err(refusal) => {
-                self.answer(rt, Answer::Refused(refusal));
+                self.answer(rt, OperatorAnswer::Refused(refusal));
                 None
             }
         }

@@ -4,23 +4,30 @@ ghost use Rattle.std.specs.Prelude.{IfSome};
 ghost use Rattle.node_commands.specs.Console.{IsStored};
 
 use crate::lines::write_open_totals;
+use crate::stats::{Stats, write_stats};
+use crate::until::UntilSettings;
 use control_text::{
-    Answer, Command, DivertedPartitions, Refusal, mistake_in, read_command, write_help,
+    DivertedPartitions, OperatorAnswer, OperatorCommand, OperatorRefusal, mistake_in, read_command,
+    write_help,
 };
 use handoff::Handoff;
 use key_counts::{KeyCounts, count_partitions, total_of};
 use log::{Log, info, warn};
+use socket_streams::ServerCounts;
 use stats_book::Totals;
 use std::alloc::Global;
 use std::io::{ErrorKind, Read, Write};
 use std::rt::Clock;
-use std::sync::Wait;
 use std::sync::atomic::{AtomicBool, Ordering};
+use std::sync::{Arc, Wait};
 use std::thread;
-use std::time::Duration;
+use std::time::{Duration, Instant};
 
 /// How many bytes of a line are kept: more than a command has. The refusal of a longer one names this number.
 const MAX_LINE: usize = 64;
+
+/// How many bytes are kept back for a count of the stored keys: more than it takes on the largest ring.
+const SPARE: usize = 524_288;
 
 /// The pause, in milliseconds, before a channel is read again that had nothing yet.
 const PAUSE_MILLIS: u64 = 10;
@@ -29,7 +36,7 @@ const PAUSE_MILLIS: u64 = 10;
 #[derive(Clone, Copy, Drop)]
 pub(crate) enum Told {
     /// The answer to a command.
-    Answer(Answer),
+    Answer(OperatorAnswer),
     /// What all sessions had counted, and how many connections were accepted.
     Totals(Totals, u64),
 }
@@ -56,10 +63,10 @@ fn count_stored<X: Wait>(rt: &X, alloc: Global, handoff: &Handoff) -> Option<Key
 }
 
 /// Tells the log what was done to a partition; of what was refused, nothing.
-fn log_answer<L: Log>(rt: &L, answer: Answer) {
+fn log_answer<L: Log>(rt: &L, answer: OperatorAnswer) {
     match answer {
-        Answer::Diverted(partition) => info!(rt; "partition {partition} is diverted"),
-        Answer::Copied {
+        OperatorAnswer::Diverted(partition) => info!(rt; "partition {partition} is diverted"),
+        OperatorAnswer::Copied {
             partition,
             keys,
             left,
@@ -71,8 +78,8 @@ fn log_answer<L: Log>(rt: &L, answer: Answer) {
             };
             info!(rt; "{keys} keys of partition {partition} were copied back, {rest}");
         }
-        Answer::Returned(partition) => info!(rt; "partition {partition} has returned"),
-        Answer::Refused(_) => {}
+        OperatorAnswer::Returned(partition) => info!(rt; "partition {partition} has returned"),
+        OperatorAnswer::Refused(_) => {}
     }
 }
 
@@ -85,19 +92,54 @@ pub(crate) struct Console<C> {
     length: usize,
     /// What is told once the workers go on, so that they don't wait for an operator who doesn't read.
     kept: Option<Told>,
-    /// Which partitions are diverted by now.
+    /// Which partitions are diverted by now, each since a second of this console.
     diverted: DivertedPartitions,
+    /// What the server has done by now.
+    counts: Arc<ServerCounts, Global>,
+    /// When the console began, where there is a clock.
+    started: Option<Instant>,
+    /// The run's number.
+    run: u32,
+    /// What a count of the stored keys takes that finds no other memory. Nothing is ever written there.
+    spare: Vec<u8>,
 }
 
-impl<C: Read + Write> Console<C> {
-    /// A console over this channel, of which no line has come.
-    pub(crate) fn new(operator: C) -> Console<C> {
-        Console {
+impl<C: Drop> Console<C> {
+    /// A console over this channel, of which no line has come, to a server that serves so. None where memory is refused.
+    pub(crate) fn new<X: Clock>(
+        rt: &X,
+        alloc: Global,
+        operator: C,
+        settings: &UntilSettings,
+    ) -> Option<Console<C>> {
+        Some(Console {
             operator,
             line: [0; MAX_LINE],
             length: 0,
             kept: None,
-            diverted: DivertedPartitions::none(),
+            diverted: DivertedPartitions::none(alloc).ok()?,
+            counts: ServerCounts::new(alloc, settings.workers).ok()?,
+            started: Instant::now(rt).ok(),
+            run: settings.run,
+            spare: Vec::with_capacity(alloc, SPARE).ok()?,
+        })
+    }
+}
+
+impl<C: Read + Write> Console<C> {
+    /// What the server has done by now.
+    pub(crate) fn counts(&self) -> &Arc<ServerCounts, Global> {
+        &self.counts
+    }
+
+    /// For how many seconds there is the console; 0 where the clock fails.
+    fn seconds<X: Clock>(&self, rt: &X) -> u64 {
+        let Some(started) = self.started else {
+            return 0;
+        };
+        match started.elapsed(rt) {
+            Ok(elapsed) => elapsed.as_secs(),
+            Err(_) => 0,
         }
     }
 
@@ -106,12 +148,37 @@ impl<C: Read + Write> Console<C> {
         self.kept = Some(told);
     }
 
+    /// How much the vnodes of all partitions store, each at a moment of its own: counted once more where memory is refused, once what is kept back for
+    /// that is given up. None where it is refused then too.
+    fn count_stored<X: Wait>(
+        &mut self,
+        rt: &X,
+        alloc: Global,
+        handoff: &Handoff,
+    ) -> Option<KeyCounts>
+        ensures { IfSome result (IsStored handoff.now) }
+    {
+        if let Some(counts) = count_stored(rt, alloc, handoff) {
+            return Some(counts);
+        }
+        self.spare = Vec::new(alloc);
+        let counts = count_stored(rt, alloc, handoff);
+        let _is_kept = self.spare.reserve(SPARE);
+        counts
+    }
+
     /// Tells what was kept, if anything was, as far as that can be written: beside totals how much is stored by now.
-    pub(crate) fn tell_kept<X: Log + Wait>(&mut self, rt: &X, alloc: Global, handoff: &Handoff) {
+    pub(crate) fn tell_kept<X: Clock + Log + Wait>(
+        &mut self,
+        rt: &X,
+        alloc: Global,
+        handoff: &Handoff,
+    ) {
         match self.kept {
             Some(Told::Answer(answer)) => self.answer(rt, answer),
             Some(Told::Totals(totals, connections)) => {
-                self.tell_totals(totals, connections, count_stored(rt, alloc, handoff));
+                let counts = self.count_stored(rt, alloc, handoff);
+                self.tell_totals(totals, connections, counts);
             }
             None => {}
         }
@@ -119,8 +186,9 @@ impl<C: Read + Write> Console<C> {
     }
 
     /// Answers, as far as that can be written; keeps, and tells the log, what was done to a partition.
-    pub(crate) fn answer<L: Log>(&mut self, rt: &L, answer: Answer) {
-        self.diverted.note(answer);
+    pub(crate) fn answer<X: Clock + Log>(&mut self, rt: &X, answer: OperatorAnswer) {
+        let now = self.seconds(rt);
+        self.diverted.note(answer, now);
         log_answer(rt, answer);
         if answer.write_line(&mut self.operator).is_ok() {
             let _unheard = self.operator.flush();
@@ -134,9 +202,23 @@ impl<C: Read + Write> Console<C> {
         }
     }
 
+    /// Tells what the server has done by now, as far as that can be written.
+    pub(crate) fn tell_stats<X: Clock>(&mut self, rt: &X) {
+        let stats = Stats {
+            uptime: self.seconds(rt),
+            run: self.run,
+            diverted: self.diverted.count(),
+            counts: &self.counts,
+        };
+        if write_stats(&mut self.operator, &stats).is_ok() {
+            let _unheard = self.operator.flush();
+        }
+    }
+
     /// Tells which partitions are diverted, as far as that can be written.
-    pub(crate) fn tell_diverted(&mut self) {
-        if self.diverted.write_line(&mut self.operator).is_ok() {
+    pub(crate) fn tell_diverted<X: Clock>(&mut self, rt: &X) {
+        let now = self.seconds(rt);
+        if self.diverted.write_line(&mut self.operator, now).is_ok() {
             let _unheard = self.operator.flush();
         }
     }
@@ -201,15 +283,15 @@ impl<C: Read + Write> Console<C> {
     }
 
     /// What the line that has come asks for, or what is wrong with it, and begins a new one.
-    pub(crate) fn take_command(&mut self) -> Result<Command, Refusal> {
+    pub(crate) fn take_command(&mut self) -> Result<OperatorCommand, OperatorRefusal> {
         let length = self.length;
         self.length = 0;
         let Some(line) = self.line.get(..length) else {
-            return Err(Refusal::LongLine);
+            return Err(OperatorRefusal::LongLine);
         };
         match read_command(line) {
             Some(command) => Ok(command),
-            None => Err(Refusal::BadLine(mistake_in(line))),
+            None => Err(OperatorRefusal::BadLine(mistake_in(line))),
         }
     }
 }

@@ -14,11 +14,11 @@ use crate::console::{Console, Told};
 use crate::fault::ServeFault;
 use crate::gates::new_shared;
 use crate::hearing::Hearing;
-use crate::lines::{announce, report};
+use crate::lines::report;
 use crate::period::{Period, serve_on};
 use crate::progress::Paused;
 use crate::until::UntilSettings;
-use control_text::{Answer, Refusal};
+use control_text::{OperatorAnswer, OperatorRefusal};
 use gate_node::{RunTallies, tallies_of};
 use handoff_tracks::{HandoffTrack, HandoffTracks};
 use log::{Log, info, warn};
@@ -61,7 +61,7 @@ fn divert(
     settings: &UntilSettings,
     tracks: &mut HandoffTracks,
     partition: u16,
-) -> (Paused, Answer)
+) -> (Paused, OperatorAnswer)
     requires serves { CanServe settings.now paused }
     requires tracks { HaveTracks (handoff_of paused.shared) tracks.old }
     ensures serves { CanServe settings.now result.0 }
@@ -69,15 +69,21 @@ fn divert(
     ensures tracks { HaveTracks (handoff_of result.0.shared) tracks.new }
 {
     if !has_partition(&paused.shared, partition) {
-        return (paused, Answer::Refused(Refusal::NoPartition(partition)));
+        return (
+            paused,
+            OperatorAnswer::Refused(OperatorRefusal::NoPartition(partition)),
+        );
     }
     let (paused, diverted) = paused.divert(alloc, partition, settings.sweep);
     match diverted {
         Ok(()) => {
             tracks.begin(partition);
-            (paused, Answer::Diverted(partition))
+            (paused, OperatorAnswer::Diverted(partition))
         }
-        Err(fault) => (paused, Answer::Refused(refusal_of(partition, &fault))),
+        Err(fault) => (
+            paused,
+            OperatorAnswer::Refused(refusal_of(partition, &fault)),
+        ),
     }
 }
 
@@ -133,7 +139,7 @@ fn heed<C: Read + Write>(
 }
 
 /// Serves, one period behind another, until it is stopped or has ended by itself.
-fn serve_periods<T, C>(
+fn serve_periods<T, C, W>(
     rt: &T,
     alloc: Global,
     listener: &TcpListener,
@@ -141,10 +147,12 @@ fn serve_periods<T, C>(
     settings: &UntilSettings,
     console: Console<C>,
     tracks: HandoffTracks,
+    writer: &mut W,
 ) -> Result<(Paused, HandoffTracks), ServeFault>
 where
     T: Log + Clock + Net + Threads + Wait + Sync,
     C: Read + Write + Send + Drop,
+    W: Write,
     requires workers { (1 ≤ settings.now.workers) × (settings.now.workers ≤ 64) }
     requires begins { CanServe settings.now paused }
     requires tracks { HaveTracks (handoff_of paused.shared) tracks }
@@ -154,11 +162,21 @@ where
     let mut paused = paused;
     let mut console = console;
     let mut tracks = tracks;
+    let mut announcing = Some(writer);
     for _ in rt.forever() {
         let Period {
             paused: left,
             mut hearing,
-        } = serve_on(rt, alloc, listener, paused, settings, console, tracks)?;
+        } = serve_on(
+            rt,
+            alloc,
+            listener,
+            paused,
+            settings,
+            console,
+            tracks,
+            announcing.take(),
+        )?;
         if is_end(hearing.asked) {
             hearing.console.log_diverted(rt);
             return Ok((left, hearing.tracks));
@@ -212,11 +230,12 @@ fn conclude<X: Wait>(
 /// Serves the connections of a listener as [`serve_on_until`](crate::serve_on_until) does, over the gates of a new run, while an operator says line by line
 /// what is to be done (`control_text` has the commands and the answers).
 ///
-/// It writes `listening ADDRESS` before the first connection is accepted, and the totals at the end. Over the operator's channel it reads lines, and writes one
+/// It writes `listening ADDRESS` once all threads were started, before the first connection is accepted, and the totals at the end. Over the operator's channel it reads lines, and writes one
 /// for each:
 ///
 /// - `help`: the commands, each with what it does, in several lines.
-/// - `diverted`: which partitions are diverted now.
+/// - `stats`: what was done by now, in numbers that are read without a pause and take no memory.
+/// - `diverted`: which partitions are diverted now, and for how long.
 /// - `totals`: what all sessions have counted, and how many connections were accepted, at one moment. For that the workers are paused. And how many keys,
 ///   siblings, dead keys and bytes of values are stored, counted behind the pause, while calls go on, each partition at a moment of its own; nothing of that
 ///   where memory is refused to the count.
@@ -272,9 +291,19 @@ where
     let Ok(tracks) = HandoffTracks::new(alloc, paused.shared.handoff()) else {
         return Err(ServeFault::NoMemory);
     };
-    let _unheard = announce(&listener, writer);
-    let console = Console::new(operator);
-    let (paused, tracks) = serve_periods(rt, alloc, &listener, paused, settings, console, tracks)?;
+    let Some(console) = Console::new(rt, alloc, operator, settings) else {
+        return Err(ServeFault::NoMemory);
+    };
+    let (paused, tracks) = serve_periods(
+        rt,
+        alloc,
+        &listener,
+        paused,
+        settings,
+        console,
+        tracks,
+        &mut *writer,
+    )?;
     tell_tracks(rt, tracks.tracks());
     let _unheard = report(paused.progress.totals, writer);
     conclude(rt, alloc, &paused, settings, tracks)

@@ -78,6 +78,7 @@ mod options;
 mod period;
 mod progress;
 mod serving;
+mod stats;
 mod streams;
 mod until;
 

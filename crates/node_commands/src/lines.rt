@@ -9,7 +9,6 @@ use log::{Log, warn};
 use stats_book::Totals;
 use std::io;
 use std::io::Write;
-use std::net::TcpListener;
 
 /// Writes where the listener listens, in a line.
 pub(crate) fn write_address<W: Write>(writer: &mut W, port: u16) -> io::Result<()>
@@ -17,13 +16,6 @@ pub(crate) fn write_address<W: Write>(writer: &mut W, port: u16) -> io::Result<(
         (Appends (W.contents writer.old) (W.contents writer.new) (address_line port)) }
 {
     writeln!(writer, "listening 127.0.0.1:{port}")
-}
-
-/// Writes where the listener listens, in a line, as far as that can be done.
-pub(crate) fn announce<W: Write>(listener: &TcpListener, writer: &mut W) -> io::Result<()> {
-    let address = listener.local_addr()?;
-    writeln!(writer, "listening {address}")?;
-    writer.flush()
 }
 
 /// Writes how many gets, puts and deletes were counted.

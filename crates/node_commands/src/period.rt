@@ -88,7 +88,7 @@ fn lay_down<T>(
 
 /// The workers serve the connections of a listener, and those whose sessions rest, until they are paused or stopped, or as many were accepted as are to be
 /// and have ended.
-fn serve_period<T>(
+fn serve_period<T, W>(
     rt: &T,
     alloc: Global,
     listener: &TcpListener,
@@ -97,9 +97,11 @@ fn serve_period<T>(
     settings: &UntilSettings,
     stop: &Stop,
     waits: RunWaits,
+    announcing: Option<&mut W>,
 ) -> Result<Progress, ServeFault>
 where
     T: Log + Clock + Net + Threads + Wait + Sync,
+    W: Write,
     requires workers { (1 ≤ length waits.workers.items) × (length waits.workers.items ≤ 64) }
     requires ready { IsReady shared.now progress }
     requires limit { IfSome settings.now.connections (λ limit. progress.connections ≤ limit) }
@@ -135,7 +137,7 @@ where
         connections,
         closed,
     };
-    let mut sessions = Sessions::new(alloc, arrivals, rested);
+    let mut sessions = Sessions::new(alloc, arrivals, rested, announcing);
     match serve(
         rt,
         alloc,
@@ -162,7 +164,7 @@ pub(crate) struct Period<C> {
 }
 
 /// A period while an operator is heard by a thread of its own, over these gates, with what the workers wait with and what pauses and stops them.
-fn serve_and_hear<T, C>(
+fn serve_and_hear<T, C, W>(
     rt: &T,
     alloc: Global,
     listener: &TcpListener,
@@ -173,10 +175,12 @@ fn serve_and_hear<T, C>(
     tracks: HandoffTracks,
     stop: Stop,
     waits: RunWaits,
+    announcing: Option<&mut W>,
 ) -> Result<(Progress, Hearing<C>), ServeFault>
 where
     T: Log + Clock + Net + Threads + Wait + Sync,
     C: Read + Write + Send + Drop,
+    W: Write,
     requires workers { (1 ≤ length waits.workers.items) × (length waits.workers.items ≤ 64) }
     requires ready { IsReady shared.now progress }
     requires limit { IfSome settings.now.connections (λ limit. progress.connections ≤ limit) }
@@ -219,7 +223,9 @@ where
             let Ok(heard) = hearing else {
                 return Err(ServeFault::NoThread);
             };
-            let served = serve_period(rt, alloc, listener, shared, progress, settings, stop, waits);
+            let served = serve_period(
+                rt, alloc, listener, shared, progress, settings, stop, waits, announcing,
+            );
             has_ended.store(true, Ordering::SeqCst);
             let hearing = heard.join(rt);
             match served {
@@ -230,8 +236,8 @@ where
     )
 }
 
-/// A period of a server that was paused, while its operator is heard.
-pub(crate) fn serve_on<T, C>(
+/// A period of a server that was paused, while its operator is heard. It is written where the listener listens, where that is to be announced.
+pub(crate) fn serve_on<T, C, W>(
     rt: &T,
     alloc: Global,
     listener: &TcpListener,
@@ -239,10 +245,12 @@ pub(crate) fn serve_on<T, C>(
     settings: &UntilSettings,
     console: Console<C>,
     tracks: HandoffTracks,
+    announcing: Option<&mut W>,
 ) -> Result<Period<C>, ServeFault>
 where
     T: Log + Clock + Net + Threads + Wait + Sync,
     C: Read + Write + Send + Drop,
+    W: Write,
     requires workers { (1 ≤ settings.now.workers) × (settings.now.workers ≤ 64) }
     requires ready { IsReady paused.shared paused.progress }
     requires limit { IfSome settings.now.connections
@@ -258,13 +266,13 @@ where
     ensures tracks { IfOk result (λ period.
         HaveTracks (handoff_of period.paused.shared) period.hearing.tracks) }
 {
-    let (waits, stop) = match new_run_waits(rt, alloc, settings.workers) {
+    let (waits, stop) = match new_run_waits(rt, alloc, settings.workers, console.counts()) {
         Ok(made) => made,
         Err(error) => return Err(setup_fault(&error)),
     };
     let Paused { shared, progress } = paused;
     let came = serve_and_hear(
-        rt, alloc, listener, &shared, progress, settings, console, tracks, stop, waits,
+        rt, alloc, listener, &shared, progress, settings, console, tracks, stop, waits, announcing,
     );
     match came {
         Ok((progress, hearing)) => Ok(Period {

@@ -8,7 +8,8 @@ use crate::lines::{conclude, write_address};
 use gate_node::Ring;
 use log::{Log, info, warn};
 use socket_streams::{
-    Arrivals, Limits, ReplyHalf, RequestHalf, RunWaits, Stop, new_posts, new_run_waits,
+    Arrivals, Limits, ReplyHalf, RequestHalf, RunWaits, ServerCounts, Stop, new_posts,
+    new_run_waits,
 };
 use std::alloc::Global;
 use std::io::Write;
@@ -160,7 +161,10 @@ where
     let Some(shared) = new_shared(alloc, settings.ring, settings.run, settings.sweep) else {
         return Err(ServeFault::NoMemory);
     };
-    let (waits, stop) = match new_run_waits(rt, alloc, settings.workers) {
+    let Ok(counts) = ServerCounts::new(alloc, settings.workers) else {
+        return Err(ServeFault::NoMemory);
+    };
+    let (waits, stop) = match new_run_waits(rt, alloc, settings.workers, &counts) {
         Ok(made) => made,
         Err(error) => return Err(setup_fault(&error)),
     };

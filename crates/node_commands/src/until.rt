@@ -6,14 +6,14 @@ ghost use Rattle.node_commands.specs.Runs.{AreTold, IsServedUntil, IsTallied};
 
 use crate::fault::{ServeFault, setup_fault};
 use crate::gates::new_shared;
-use crate::lines::{announce, conclude};
+use crate::lines::conclude;
 use crate::serving::serve_fault;
 use gate_node::{Open, Passes, Ring, RunTallies, Shared, tallies_of};
 use log::Log;
 use session_pool::{NoPause, Served, serve};
 use socket_streams::{
-    Arrivals, Limits, LogSink, ReplyHalf, RequestHalf, RunWaits, Sessions, Stop, Waiting,
-    new_run_waits, new_seats,
+    Arrivals, Limits, LogSink, ReplyHalf, RequestHalf, RunWaits, ServerCounts, Sessions, Stop,
+    Waiting, new_run_waits, new_seats,
 };
 use std::alloc::Global;
 use std::io::{Read, Write};
@@ -99,8 +99,8 @@ where
     }
 }
 
-/// Serves the connections of a listener, by workers that wait with these.
-fn serve_over<'a, T>(
+/// Serves the connections of a listener, by workers that wait with these, and writes where it listens.
+fn serve_over<'a, T, W>(
     rt: &'a T,
     alloc: Global,
     listener: &TcpListener,
@@ -109,9 +109,11 @@ fn serve_over<'a, T>(
     stop: &Stop,
     waits: RunWaits,
     can_stop: bool,
+    writer: &mut W,
 ) -> Result<ServedUntil<'a, T>, ServeFault>
 where
     T: Log + Clock + Net + Threads + Wait + Sync,
+    W: Write,
     requires workers { (1 ≤ length waits.workers.items) × (length waits.workers.items ≤ 64) }
     ensures served { IfOk result (λ outcome. AreTold shared.now outcome.served
         outcome.tallies outcome.connections outcome.closed) }
@@ -138,7 +140,7 @@ where
     let Ok(mut seen) = Passes::new(alloc, shared) else {
         return Err(ServeFault::NoMemory);
     };
-    let mut sessions = Sessions::new(alloc, arrivals, Vec::new(alloc));
+    let mut sessions = Sessions::new(alloc, arrivals, Vec::new(alloc), Some(writer));
     match serve(
         rt,
         alloc,
@@ -158,17 +160,19 @@ where
 }
 
 /// The same, until an input ends, if there is one.
-fn serve_until_end<'a, T, I>(
+fn serve_until_end<'a, T, I, W>(
     rt: &'a T,
     alloc: Global,
     listener: &TcpListener,
     shared: &Shared,
     settings: UntilSettings,
     until: Option<I>,
+    writer: &mut W,
 ) -> Result<ServedUntil<'a, T>, ServeFault>
 where
     T: Log + Clock + Net + Threads + Wait + Sync,
     I: Read + Send + Drop,
+    W: Write,
     requires workers { (1 ≤ settings.workers) × (settings.workers ≤ 64) }
     ensures served { IfOk result (λ outcome. AreTold shared.now outcome.served
         outcome.tallies outcome.connections outcome.closed) }
@@ -177,7 +181,10 @@ where
     ensures all { until ≡ None → IfOk result (λ outcome.
         settings.connections ≡ Some outcome.connections) }
 {
-    let (waits, stop) = match new_run_waits(rt, alloc, settings.workers) {
+    let Ok(counts) = ServerCounts::new(alloc, settings.workers) else {
+        return Err(ServeFault::NoMemory);
+    };
+    let (waits, stop) = match new_run_waits(rt, alloc, settings.workers, &counts) {
         Ok(made) => made,
         Err(error) => return Err(setup_fault(&error)),
     };
@@ -198,7 +205,7 @@ where
         {
             start_reader(scope, rt, &stop, until)?;
             let served = serve_over(
-                rt, alloc, listener, shared, settings, &stop, waits, can_stop,
+                rt, alloc, listener, shared, settings, &stop, waits, can_stop, writer,
             );
             stop.close();
             served
@@ -210,7 +217,7 @@ where
 ///
 /// It serves until as many connections were accepted as are to be and all of them have ended by themselves, or until an input ends or the
 /// listener fails, when it ends them. One for which memory is refused is closed, and is one of those that were accepted. It writes
-/// `listening ADDRESS` before the first connection is accepted, and the totals at the end. A failed write of these is passed over. The log
+/// `listening ADDRESS` once all threads were started, before the first connection is accepted, and the totals at the end. A failed write of these is passed over. The log
 /// has a line for each connection when it is accepted, and one when it has ended.
 ///
 /// There is one history of the primary of each partition, legal, and after each step of each session its passes have seen beginnings of
@@ -249,8 +256,15 @@ where
     let Some(shared) = new_shared(alloc, settings.ring, settings.run, settings.sweep) else {
         return Err(ServeFault::NoMemory);
     };
-    let _unheard = announce(&listener, writer);
-    let outcome = serve_until_end(rt, alloc, &listener, &shared, *settings, until);
+    let outcome = serve_until_end(
+        rt,
+        alloc,
+        &listener,
+        &shared,
+        *settings,
+        until,
+        &mut *writer,
+    );
     if let Ok(outcome) = &outcome {
         conclude(rt, outcome.served.totals, outcome.tallies.count_all, writer);
     }

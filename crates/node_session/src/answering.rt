@@ -89,6 +89,7 @@ pub(crate) fn answer_next<N: Node>(
     match framer.take() {
         Ok(Some(frame)) => {
             let framed = answer(alloc, frame.code, frame.body, node, out, scratch);
+            scratch.count_answer(frame.code, out);
             let told = (&*exchanges, frame, &framed.reply);
             let longer = GhostList::listed::<(&GhostList<Exchange>, Frame<'_>, &GhostReply), Told>(
                 &told,

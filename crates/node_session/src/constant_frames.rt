@@ -7,6 +7,52 @@ ghost use Rattle.node_session.specs.Answers.{reply_frame, IsFramed, IsNoError};
 
 use riak_msgs::{GetReply, PutReply, Reply, Text};
 
+/// All errors.
+const ERRORS: [Text; 18] = [
+    Text::UnknownCode,
+    Text::BadMessage,
+    Text::MissingField,
+    Text::EmptyName,
+    Text::NoKey,
+    Text::NoMemory,
+    Text::MatchFound,
+    Text::Modified,
+    Text::NotFound,
+    Text::BadContext,
+    Text::TooManySiblings,
+    Text::ClockFull,
+    Text::EpochsUsedUp,
+    Text::CounterUsedUp,
+    Text::Moved,
+    Text::HistoryFull,
+    Text::BadFrame,
+    Text::FrameTooLarge,
+];
+
+/// The place of the message code in a frame, and the code of an error.
+const CODE_PLACE: usize = 4;
+
+const ERROR_CODE: u8 = 0;
+
+/// The error whose frame this is, if it is one's.
+#[inline(always)]
+pub(crate) fn error_in(frame: &[u8]) -> Option<Text> {
+    match frame.get(CODE_PLACE) {
+        Some(code) if *code == ERROR_CODE => error_named(frame),
+        _ => None,
+    }
+}
+
+/// The error that has just this frame.
+fn error_named(frame: &[u8]) -> Option<Text> {
+    for text in ERRORS {
+        if error_frame(text) == frame {
+            return Some(text);
+        }
+    }
+    None
+}
+
 /// The frame of an error reply. It takes no memory, so that `no memory` can always be answered.
 #[tactic(auto, unfolding(pb_frame::specs::Message::frame, riak_msgs::specs::Encoding::varint_encoding, riak_msgs::specs::Encoding::varint_encoded))]
 pub(crate) fn error_frame(text: Text) -> &'static [u8]

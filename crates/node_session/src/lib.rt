@@ -57,6 +57,7 @@
 //!   read counts and leaves no trace.
 #![tactic(auto)]
 
+mod answer_counts;
 mod answering;
 mod constant_frames;
 mod course;
@@ -78,6 +79,7 @@ mod stage;
 mod talk;
 mod vnode_reply;
 
+pub use answer_counts::{AnswerCounts, MessageKind};
 pub use course::Course;
 pub use ended::Ended;
 pub use exchange::Exchange;

@@ -5,7 +5,7 @@ ghost use Rattle.riak_msgs.specs.declared.reply.Reply.TheVariants.{Error, Get};
 ghost use Rattle.node_session.specs.Answers.{reply_frame, HasNoFrame, IsFramed};
 ghost use Rattle.node_session.specs.Unsent.{PutsReply, IsFront};
 
-use crate::constant_frames::{constant_frame, error_frame, nothing_frame};
+use crate::constant_frames::{constant_frame, error_frame, error_in, nothing_frame};
 use crate::reply::fill_frame;
 use crate::scratch::{MOST_ROOM, Scratch};
 use pb_frame::FrameFault;
@@ -62,6 +62,12 @@ impl ReplyFrame {
             sent: 0,
             constant: b"",
         }
+    }
+
+    /// Which error is to be sent, if one is.
+    #[inline(always)]
+    pub(crate) fn error(&self) -> Option<Text> {
+        error_in(self.constant)
     }
 
     /// How many bytes are to be sent.

@@ -2,17 +2,21 @@
 
 ghost use Rattle.std.specs.Prelude.{◌≡◌, []};
 
+use crate::answer_counts::AnswerCounts;
 use crate::reading::LONG_READ_LEN;
+use crate::reply_frame::ReplyFrame;
 use crate::serving::MAX_READ_LEN;
 use pb_frame::{Framer, return_room};
 use std::alloc::Global;
 use std::mem;
+use std::sync::Arc;
 
 /// How much room is kept for requests, and how much for a reply, in bytes.
 pub(crate) const MOST_ROOM: usize = 65_520;
 
 /// What a worker lends to each step of its sessions: the bytes that a read comes into, those of a long
-/// message, room for requests that are still to be answered, and room for the frame of a reply.
+/// message, room for requests that are still to be answered, and room for the frame of a reply. Where a
+/// worker counts its answers, they are counted here.
 ///
 /// A session takes room when it has read or replied something, and gives it back once all that was read
 /// is answered and sent: one that waits for its next request holds none. Once
@@ -25,6 +29,7 @@ pub struct Scratch {
     pub(crate) long_piece: Vec<u8>,
     pub(crate) requests: Vec<u8>,
     reply: Vec<u8>,
+    counts: Option<Arc<AnswerCounts, Global>>,
 }
 
 /// One call at each place where one is let go.
@@ -35,6 +40,7 @@ impl Drop for Scratch {
             long_piece: _long_piece,
             requests: _requests,
             reply: _reply,
+            counts: _counts,
         } = self;
     }
 }
@@ -47,6 +53,20 @@ impl Scratch {
             long_piece: Vec::new(alloc),
             requests: Vec::new(alloc),
             reply: Vec::new(alloc),
+            counts: None,
+        }
+    }
+
+    /// Has the answers of all sessions counted there.
+    pub fn count_in(&mut self, counts: Arc<AnswerCounts, Global>) {
+        self.counts = Some(counts);
+    }
+
+    /// A message of this code was answered by what is to be sent there.
+    #[inline(always)]
+    pub(crate) fn count_answer(&self, code: u8, out: &ReplyFrame) {
+        if let Some(counts) = &self.counts {
+            counts.count(code, out.error());
         }
     }
 

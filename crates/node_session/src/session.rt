@@ -21,6 +21,9 @@ use pb_frame::{Framer, MAX_REQUEST_LEN};
 use std::alloc::{AllocError, Global};
 use std::marker::Model;
 
+/// The code for what has none: a frame of a bad length.
+const NO_CODE: u8 = 0;
+
 /// What a session did about its next message.
 #[derive(Clone, Copy, Drop)]
 pub enum Next {
@@ -245,6 +248,7 @@ impl Session {
             Ok(None) => Ok(Next::Idle),
             Err(fault) => {
                 self.outbox.put_error(frame_fault_text(fault));
+                scratch.count_answer(NO_CODE, &self.outbox);
                 Err(Halt::BadFrame)
             }
         }

@@ -36,10 +36,10 @@ fn bare_serve<'a>(alloc: Global) -> clap::Command<'a> {
              log of the connections goes to standard error.\n\n\
              With --control each line of standard input is a command, and is answered between these two, by one line but\n\
              for help: help, the commands, one a line; totals, what was done so far, how many connections came, and how\n\
-             much is stored; diverted, which partitions are diverted; divert P, calls of partition P, from 0, go to a\n\
-             fallback; copy P B, at most B of its keys are copied back, and whether some are left; return P, it is at its\n\
-             primary again; stop, serving ends in order. What can't be done is answered by why, as in:\n\
-             refused: there is no partition 64.\n\n\
+             much is stored; stats, what was done by now, without a pause; diverted, which partitions are diverted;\n\
+             divert P, calls of partition P, from 0, go to a fallback; copy P B, at most B of its keys are copied back,\n\
+             and whether some are left; return P, it is at its primary again; stop, serving ends in order. What can't be\n\
+             done is answered by why, as in: refused: there is no partition 64.\n\n\
              With --control-port an operator writes these lines to that port and reads the answers there. A further one is told\n\
              that another is connected, and closed. The address is a line before the other two, as in: control 127.0.0.1:8088.\n\n\
              Exit status: 0 at the end of standard input with --until-eof or --control, at stop, and when all connections\n\

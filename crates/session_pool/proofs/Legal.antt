@@ -82,6 +82,7 @@ module _ {R W : Type 0} (remaining : R → Option (List ℕ)) (contents : W → 
     after = h.ends.after;
     ends = ends_at one.session.origin (with_passes one.end one.passes one.session.origin) h.ends.after (seen_less histories seen.primaries one.passes.primaries saw h.covered) h.ends.ends;
     counts = h.ends.counts;
+    room = h.ends.room;
   }
 
 pub told_is_legal : {R W : Type 0} (remaining : R → Option (List ℕ)) (contents : W → Option (List ℕ)) (shared : Gates) (given : List (SuspendedView R W)) (seen : Sights) (one : ToldSession R W) → ToldSessionIsLegal remaining contents shared given seen one
@@ -106,5 +107,6 @@ told_is_legal remaining contents shared given seen one tallies count_all new non
           session = over_by (RunStepIn histories shared) (AnswersAsRegister shared histories) (λ node. node) (step_as histories shared none plain.commands) (first_node one.session.origin) at.after one.session.origin.unread (remaining one.end.reader) one.session.origin.held (contents one.end.writer) one.session.origin.gates.reads one.end.result at.ends.session;
         };
         counts = at.counts;
+        room = at.room;
       };
     }

@@ -152,6 +152,7 @@ module _ {R W : Type 0} (remaining : R → Option (List ℕ)) (contents : W → 
           after = now.rest;
           ends = subst (λ (from : Origin). EndsOver remaining contents shared RunStep from ended now.rest) origin moved;
           counts = λ whole. ap (λ (t : Totals). both t counted) (sym stays.before) ∙ counts whole ∙ ap (λ (s : SuspendedView R W). s.rest.count.counted) (sym is);
+          room = λ whole. ap (λ (s : SuspendedView R W). s.rest.count.book_full) is ∙ room whole;
         }
     leaves counted full counts room now is (lefts.Rests last) h =
         let same : last ≡ as_left stay = h.0 ∙ is in
@@ -164,7 +165,7 @@ module _ {R W : Type 0} (remaining : R → Option (List ℕ)) (contents : W → 
 
   -- where the worker has no room for it, nothing is said of what was counted
   pub leaves_full : (shared : Gates) (session : SuspendedView R W) (counted none : Totals) (full : Bool) (left : Left R W) → LeavesSession remaining contents shared RunStep session counted full left → LeavesSession remaining contents shared RunStep session none true left
-  leaves_full shared session counted none full (lefts.Ended ended) h = record { after = h.after; ends = h.ends; counts = λ whole. absurd (cc whole) }
+  leaves_full shared session counted none full (lefts.Ended ended) h = record { after = h.after; ends = h.ends; counts = λ whole. absurd (cc whole); room = λ whole. absurd (cc whole) }
   leaves_full shared session counted none full (lefts.Rests now) h = record { origin = h.origin; over = h.over; counts = λ whole. absurd (cc whole); room = λ whole. absurd (cc whole) }
 
 -- one that is left where it may be rests only where that is allowed

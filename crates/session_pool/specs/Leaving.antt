@@ -35,11 +35,12 @@ module _ {R W : Type 0} (remaining : R → Option (List ℕ)) (contents : W → 
   IsLeftAs session (Rests now) = (now ≡ session) × IsGoing session.stage
 
   module _ (shared : Gates) (Step : NodeOverGates → Request → Reply → NodeOverGates → Type 0) where
-    -- a session that rested came to this end, and has counted so much more
+    -- a session that rested came to this end, and has counted so much more; and its node has met no full book, where so
     pub record IsEndOf (session : SuspendedView R W) (counted : Totals) (full : Bool) (ended : EndedSession R W) : Type 0 where
       pub after : NodeOverGates
       pub ends : EndsOver shared Step session.origin ended after
       pub counts : full ≡ false → both session.rest.count.counted counted ≡ after.count.counted
+      pub room : full ≡ false → after.count.book_full ≡ false
 
     -- that, or it rests again
     abbrev pub LeavesSession : SuspendedView R W → Totals → Bool → Left R W → Type 0

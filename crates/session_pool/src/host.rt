@@ -1,5 +1,9 @@
 //! The service of the workers of a run: sessions over its gates, in steps, each by a node of its own.
 ghost use Rattle.std.specs.Prelude.{◌≡◌};
+ghost use Rattle.node_session.specs.Courses.{IsOver};
+ghost use Rattle.session_pool.specs.Leaving.{IsEnd};
+ghost use Rattle.session_pool.specs.Serving.{CountsInStay, MayBeLeft};
+ghost use Rattle.session_pool.specs.Suspending.{CanGoOn, StaysOver, SuspendedView};
 
 use crate::kept::KeptByWorker;
 use crate::left::Left;
@@ -60,12 +64,70 @@ impl<'a, H: OfGates, X, T, Q, R, W> Model for Host<'a, H, X, T, Q, R, W> {
 }
 
 impl<'a, H: OfGates, X, T, Q, R, W> Host<'a, H, X, T, Q, R, W> {
+    /// Over these gates, for workers that keep nothing for themselves.
+    pub fn new(rt: &'a X, shared: &'a Shared, turnstile: &'a T, pause: &'a Q) -> Self
+        requires { shared.now ≡ H.gates }
+        ensures { result ≡ shared.now }
+    {
+        Host {
+            rt,
+            shared,
+            turnstile,
+            pause,
+            kept: &[],
+            of: PhantomData,
+            readers: PhantomData,
+            writers: PhantomData,
+        }
+    }
+
     /// The gates.
-    pub(crate) fn shared(&self) -> &Shared
+    pub fn shared(&self) -> &Shared
         ensures shared { result.now ≡ self.now }
         ensures of_run { self.now ≡ H.gates }
     {
         self.shared
+    }
+}
+
+impl<'a, H, X, T, Q, R, W> Host<'a, H, X, T, Q, R, W>
+where
+    H: OfGates,
+    X: Wait,
+    T: Turnstile,
+    Q: Pause,
+    R: Read,
+    W: Write,
+{
+    /// Has a session go on, by the worker with this tray. It takes no memory.
+    pub fn go_on(&self, worker: &Tray, session: Suspended<R, W>) -> Stay<'a, X, T, R, W>
+        requires { CanGoOn self.now session }
+        ensures { StaysOver self.now session result }
+    {
+        let kept = self.kept.get(worker.place);
+        session.go_on(
+            self.rt,
+            self.shared,
+            self.turnstile,
+            kept,
+            worker.new_count(),
+        )
+    }
+
+    /// Leaves a session that is over, or may rest. The worker with this tray counts what it counted.
+    pub fn leave(&self, worker: &mut Tray, opened: Stay<'a, X, T, R, W>) -> LeftSession<R, W>
+        requires { MayBeLeft Q.can_be_raised opened.stage }
+        ensures over { IsOver opened.entry.stage → IsEnd result.left }
+        ensures counts { (session : SuspendedView R W) → StaysOver self.now session opened.entry
+            → CountsInStay Q.can_be_raised R.remaining W.contents self.now
+            worker.old session worker.new result }
+    {
+        let (left, count) = opened.leave(&mut worker.scratch);
+        let is_added = worker.add(count);
+        LeftSession {
+            left,
+            book_full: !is_added,
+        }
     }
 }
 
@@ -103,8 +165,7 @@ where
         worker: &mut Tray,
         job: Suspended<R, W>,
     ) -> Result<Stay<'a, X, T, R, W>, Suspended<R, W>> {
-        let kept = self.kept.get(worker.place);
-        Ok(job.go_on(self.rt, self.shared, self.turnstile, kept))
+        Ok(self.go_on(worker, job))
     }
 
     /// Gives the worker's reserve up, where it has one.
@@ -130,11 +191,6 @@ where
     }
 
     fn close(&self, worker: &mut Tray, opened: Stay<'a, X, T, R, W>) -> LeftSession<R, W> {
-        let (left, count) = opened.leave(&mut worker.scratch);
-        let is_added = worker.add(count);
-        LeftSession {
-            left,
-            book_full: !is_added,
-        }
+        self.leave(worker, opened)
     }
 }

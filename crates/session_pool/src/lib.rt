@@ -25,14 +25,15 @@
 //! takes its streams, its passes and what it has in part, as one that is open does; to lay it down
 //! and to go on take no memory, beside a place for each that a worker has open.
 //!
-//! How it is built: an open session ([`Stay`]) is a service of `job_pool`. It has a node of its
-//! own, over its passes, which counts by itself, and when it is left its worker adds what it has
-//! counted. So what a step changes is that session's alone. For clauses its
-//! node ([`RunNode`]) stands where the session rested, until its next step is taken over the gates
-//! as they are then. So what was said of the session so far is said of it. What says where is a
-//! [`Rest`], which has no bytes. Of two passes of a gate the one behind has seen a beginning of
-//! what the other has: so passes that are laid together with those of each session that is over
-//! have seen all that these had, through as many runs as are wanted.
+//! How it is built: an open session ([`Stay`]) is served by [`Host`], a service of `job_pool`,
+//! which a run that keeps its ends may take too. The session has a node of its own, over its
+//! passes, which counts by itself, and when it is left its worker ([`Tray`]) adds what it has
+//! counted. So what a step changes is that session's alone. For clauses its node ([`RunNode`])
+//! stands where the session rested, until its next step is taken over the gates as they are then.
+//! So what was said of the session so far is said of it. What says where is a [`Rest`], which has
+//! no bytes. Of two passes of a gate the one behind has seen a beginning of what the other has: so
+//! passes that are laid together with those of each session that is over have seen all that these
+//! had, through as many runs as are wanted.
 //!
 //! # Proved
 //!
@@ -55,6 +56,7 @@
 //!
 //! - The totals equal the sums of the tallies. No clause says that each event is some session's.
 //! - A run ends once its pause is raised.
+//! - What workers show while they serve ([`LiveCounts`]) is, once the run is over, its totals.
 //! - Runs pause at each of their steps.
 //!
 //! # Open
@@ -68,6 +70,7 @@ mod host;
 mod kept;
 mod laws;
 mod left;
+mod live_counts;
 mod pause;
 mod pool;
 mod rest;
@@ -84,17 +87,22 @@ mod watch;
 
 pub use end_sink::{EndSink, SessionEnd};
 pub use gate_node::{Open, Passes, PoolFault, Shared, Turnstile};
+pub use host::{Host, LeftSession, OfGates};
 pub use job_pool::{JobFault, Jobs, StreamReadiness};
 pub use laws::{
     sessions_are_at_positions, sessions_go_on, sessions_stay_in_their_run,
     told_sessions_are_at_positions, told_sessions_are_legal,
 };
 pub use left::{EndedSession, Left};
-pub use node_session::{Ended, MAX_READ_LEN, SessionFault};
+pub use live_counts::LiveCounts;
+pub use node_session::{AnswerCounts, Ended, MAX_READ_LEN, MessageKind, SessionFault};
 pub use pause::{NoPause, Pause};
 pub use pool::serve;
 pub use rest::{Began, Rest};
+pub use riak_msgs::Text;
 pub use run_node::{NodeParts, RunNode};
 pub use seat::Seat;
 pub use served::Served;
+pub use stay::Stay;
 pub use suspended::Suspended;
+pub use tray::{Tray, new_trays, sum_up};

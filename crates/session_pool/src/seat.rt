@@ -1,9 +1,13 @@
 //! What a worker is started with.
 
-/// What a worker is started with: what is told the ends of its sessions, what it waits with, and what it is woken by.
+use crate::live_counts::LiveCounts;
+
+/// What a worker is started with: what is told the ends of its sessions, what it waits with, what it is woken by, and
+/// where it shows what its sessions do, if it does.
 #[derive(Drop)]
 pub struct Seat<K, D, B> {
     pub sink: K,
     pub readiness: D,
     pub bell: B,
+    pub counts: Option<LiveCounts>,
 }

@@ -56,9 +56,10 @@ where
         sink,
         readiness,
         bell,
+        counts,
     } = seat;
     Ok(Station {
-        worker: Tray::new(alloc, place),
+        worker: Tray::new(alloc, place, counts),
         sink: Teller::new(alloc, sink, seen),
         readiness: Watch::new(alloc, readiness, kept, place),
         bell,

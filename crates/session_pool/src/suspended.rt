@@ -186,8 +186,10 @@ impl<R: Read, W: Write> Suspended<R, W> {
         shared: &'a Shared,
         turnstile: &'a T,
         kept: Option<&'a KeptByWorker<'a>>,
+        count: SessionCount,
     ) -> Stay<'a, X, T, R, W>
-        requires { CanGoOn shared.now self }
+        requires goes { CanGoOn shared.now self }
+        requires unused { count ≡ record { counted = zeros; book_full = false } }
         ensures { StaysOver shared.now self result }
     {
         let Suspended {
@@ -200,7 +202,7 @@ impl<R: Read, W: Write> Suspended<R, W> {
             over: _,
         } = self;
         let node = kept_by(
-            GateNode::counting_by(rt, shared, SessionCount::new(), passes, turnstile),
+            GateNode::counting_by(rt, shared, count, passes, turnstile),
             kept,
         );
         Stay {

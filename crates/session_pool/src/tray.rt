@@ -1,10 +1,11 @@
 //! What a worker has beside its open sessions.
-ghost use Rattle.std.specs.Prelude.{◌≡◌, true, false, IfSome, IfNone};
+ghost use Rattle.std.specs.Prelude.{◌≡◌, true, false, replicate, IfOk, IfSome, IfNone};
 ghost use Rattle.stats_book.specs.Counting.{ArePastFull, both, sum_of, zeros};
 
+use crate::live_counts::LiveCounts;
 use node_session::Scratch;
 use stats_book::{SessionCount, Totals};
-use std::alloc::Global;
+use std::alloc::{AllocError, Global};
 use std::marker::Model;
 
 /// What a worker has counted, what is lent to each step of its sessions, and which of the run's workers it is.
@@ -14,6 +15,7 @@ pub struct Tray {
     totals: Totals,
     pub(crate) scratch: Scratch,
     pub(crate) place: usize,
+    counts: Option<LiveCounts>,
 }
 
 /// One call at each place where one is let go.
@@ -23,6 +25,7 @@ impl Drop for Tray {
             totals: _totals,
             scratch: _scratch,
             place: _place,
+            counts: _counts,
         } = self;
     }
 }
@@ -35,19 +38,41 @@ impl Model for Tray {
     ghost view = { λ t. t.totals };
 }
 
+/// Has the answers counted that are made in this room, where they are shown.
+fn count_answers(scratch: &mut Scratch, counts: &Option<LiveCounts>) {
+    if let Some(counts) = counts {
+        if let Some(answers) = counts.share_answers() {
+            scratch.count_in(answers);
+        }
+    }
+}
+
 impl Tray {
     /// Of the worker in this place, which has served nothing. It makes the room that the worker lends to its sessions, once: a session that has a
-    /// message in part keeps it. Where there is no memory for it, each session takes its own.
-    pub(crate) fn new(alloc: Global, place: usize) -> Tray
+    /// message in part keeps it. Where there is no memory for it, each session takes its own. What its sessions do is shown there, if it is.
+    pub(crate) fn new(alloc: Global, place: usize, counts: Option<LiveCounts>) -> Tray
         ensures { result ≡ zeros }
     {
         let mut scratch = Scratch::new(alloc);
         let _is_made = scratch.make_room();
+        count_answers(&mut scratch, &counts);
         Tray {
             totals: Totals::zeros(),
             scratch,
             place,
+            counts,
         }
+    }
+
+    /// What a session that goes on counts by.
+    pub(crate) fn new_count(&self) -> SessionCount
+        ensures { result ≡ record { counted = zeros; book_full = false } }
+    {
+        let live = match &self.counts {
+            Some(counts) => counts.share_totals(),
+            None => None,
+        };
+        SessionCount::seen_in(live)
     }
 
     /// Adds what a session counted that was left. False where that isn't all that there was to be counted, or a number would pass the last one;
@@ -69,8 +94,20 @@ impl Tray {
     }
 }
 
+/// A tray for each of so many workers.
+pub fn new_trays(alloc: Global, workers: u16) -> Result<Vec<Tray>, AllocError>
+    ensures { IfOk result (λ trays. trays.items ≡ replicate workers zeros) }
+{
+    let mut trays = Vec::with_capacity(alloc, usize::from(workers))?;
+    for _ in 0..workers {
+        let place = trays.len();
+        trays.push(Tray::new(alloc, place, None))?;
+    }
+    Ok(trays)
+}
+
 /// What these workers have counted in all. None where a number would pass the last one.
-pub(crate) fn sum_up(trays: Vec<Tray>) -> Option<Totals>
+pub fn sum_up(trays: Vec<Tray>) -> Option<Totals>
     ensures sum { IfSome result (λ totals. totals ≡ sum_of trays.items) }
     ensures past { IfNone result (ArePastFull zeros (sum_of trays.items)) }
 {

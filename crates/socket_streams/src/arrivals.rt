@@ -110,6 +110,11 @@ impl<'a, X, L: OpenListener<Stream = TcpStream> + AsRawFd> Arrivals<'a, X, L> {
         })
     }
 
+    /// The listener.
+    pub(crate) fn listener(&self) -> &L {
+        self.listener
+    }
+
     /// The gates that its connections are for.
     pub(crate) fn shared(&self) -> &Shared
         ensures { result.now ≡ self.now.gates }
@@ -324,6 +329,7 @@ where
         ensures none { IfNone result (self.new.given ≡ self.old.given) }
     {
         info!(self.rt; "connection from {peer}");
+        self.stop.counts().count_accepted();
         self.spare.refill(self.alloc);
         let job = self.new_job(stream, peer);
         if job.is_some() {
@@ -331,6 +337,7 @@ where
             self.failures = 0;
         } else {
             self.count_refused();
+            self.stop.counts().count_turned_away();
             log_refused(self.rt, peer);
         }
         job

@@ -20,12 +20,19 @@ pub(crate) struct Connection {
     is_asked: AtomicBool,
     /// Whether a read has met the end of what comes, or a call has failed: then its client sends nothing more.
     is_over: AtomicBool,
-    /// How many bytes were read and written in this turn. Its worker alone counts.
+    /// How many bytes were read and written in this turn, and how many of them read. Its worker alone counts.
     moved: AtomicUsize,
+    received: AtomicUsize,
     /// How many bytes of replies wait because the socket didn't take them. Its worker alone counts.
     waiting: AtomicUsize,
     /// Whether one of its halves was called since its worker asked that last.
     is_called: AtomicBool,
+}
+
+/// Adds to a number that this thread alone raises.
+fn add(number: &AtomicUsize, bytes: usize) {
+    let sum = number.load(Ordering::Relaxed).saturating_add(bytes);
+    number.store(sum, Ordering::Relaxed);
 }
 
 /// Whether an error says that the same call may go well later.
@@ -45,6 +52,7 @@ impl Connection {
             is_asked: AtomicBool::new(false),
             is_over: AtomicBool::new(false),
             moved: AtomicUsize::new(0),
+            received: AtomicUsize::new(0),
             waiting: AtomicUsize::new(0),
             is_called: AtomicBool::new(false),
         }
@@ -63,6 +71,7 @@ impl Connection {
             is_asked: _,
             is_over: _,
             moved: _,
+            received: _,
             waiting: _,
             is_called: _,
         } = self;
@@ -103,6 +112,7 @@ impl Connection {
     /// It begins a turn, in which nothing was read or written yet.
     pub(crate) fn begin_turn(&self) {
         self.moved.store(0, Ordering::Relaxed);
+        self.received.store(0, Ordering::Relaxed);
         self.is_called.store(false, Ordering::Relaxed);
     }
 
@@ -127,7 +137,7 @@ impl Connection {
 
     /// The system took so many bytes of those that were left of them.
     pub(crate) fn note_taken(&self, taken: usize, left: usize) {
-        self.note_moved(taken);
+        add(&self.moved, taken);
         if taken == left {
             self.waiting.store(0, Ordering::Relaxed);
         }
@@ -138,15 +148,20 @@ impl Connection {
         self.waiting.load(Ordering::Relaxed)
     }
 
-    /// So many bytes were read or written.
-    pub(crate) fn note_moved(&self, bytes: usize) {
-        let moved = self.moved.load(Ordering::Relaxed).saturating_add(bytes);
-        self.moved.store(moved, Ordering::Relaxed);
+    /// So many bytes were read.
+    pub(crate) fn note_received(&self, bytes: usize) {
+        add(&self.moved, bytes);
+        add(&self.received, bytes);
     }
 
     /// How many bytes were read and written in this turn.
     pub(crate) fn moved(&self) -> usize {
         self.moved.load(Ordering::Relaxed)
+    }
+
+    /// How many bytes were read in this turn.
+    pub(crate) fn received(&self) -> usize {
+        self.received.load(Ordering::Relaxed)
     }
 
     /// Whether its client sends nothing more.

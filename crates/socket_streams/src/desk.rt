@@ -4,15 +4,17 @@ use crate::door::Door;
 use crate::halves::{ReplyHalf, RequestHalf};
 use crate::lingering::{LOOK_MILLIS, Lingering};
 use crate::pause::PAUSE_MILLIS;
+use crate::refused_puts::RefusalWatch;
 use crate::replies_bound::{ASIDE_MILLIS, RepliesBound};
 use crate::reports::{note_events, register};
-use crate::slots::{Patience, Slots};
+use crate::slots::{Patience, Slots, Traffic};
 use crate::stop::Stop;
 use crate::turn_bound::TurnBound;
 use crate::waiting::{Spin, Waiting};
 use crate::waits::Waits;
 use crate::worker_clock::WorkerClock;
 use job_pool::{Moved, Turn};
+use log::Log;
 use session_pool::StreamReadiness;
 use std::alloc::Global;
 use std::rt::Clock;
@@ -55,6 +57,7 @@ pub struct SocketDesk<'s, X> {
     is_stopping: bool,
     /// Whether it has seen that the run pauses.
     is_pausing: bool,
+    refusals: RefusalWatch,
 }
 
 /// One call at each place where one is let go.
@@ -78,6 +81,7 @@ impl<'s, X> Drop for SocketDesk<'s, X> {
             is_settled: _is_settled,
             is_stopping: _is_stopping,
             is_pausing: _is_pausing,
+            refusals: _refusals,
         } = self;
     }
 }
@@ -93,6 +97,7 @@ impl<'s, X: Clock + Wait> SocketDesk<'s, X> {
         waiting: Waiting,
         replies: RepliesBound,
     ) -> SocketDesk<'s, X> {
+        let refusals = RefusalWatch::new(door.counts());
         SocketDesk {
             rt,
             stop,
@@ -111,6 +116,7 @@ impl<'s, X: Clock + Wait> SocketDesk<'s, X> {
             is_settled: false,
             is_stopping: false,
             is_pausing: false,
+            refusals,
         }
     }
 
@@ -208,6 +214,7 @@ impl<'s, X: Clock + Wait> SocketDesk<'s, X> {
         }
         self.door.count_end();
         let rests = self.door.take_rest();
+        self.door.counts().count_end(rests);
         if let Some(socket) = self.slots.end(slot) {
             if !rests && !socket.is_over() {
                 self.lingering.add(self.rt, socket);
@@ -331,7 +338,7 @@ impl<'s, X: Clock + Wait> SocketDesk<'s, X> {
     }
 }
 
-impl<'s, X: Clock + Wait> StreamReadiness<RequestHalf, ReplyHalf> for SocketDesk<'s, X> {
+impl<'s, X: Clock + Log + Wait> StreamReadiness<RequestHalf, ReplyHalf> for SocketDesk<'s, X> {
     fn may_take_memory(&self) -> bool {
         self.stop.is_started()
     }
@@ -342,6 +349,7 @@ impl<'s, X: Clock + Wait> StreamReadiness<RequestHalf, ReplyHalf> for SocketDesk
     }
 
     fn begin(&mut self, slot: usize, reader: &RequestHalf, _writer: &ReplyHalf) {
+        self.door.counts().count_begin();
         self.watch(slot, reader);
     }
 
@@ -359,6 +367,8 @@ impl<'s, X: Clock + Wait> StreamReadiness<RequestHalf, ReplyHalf> for SocketDesk
     }
 
     fn after(&mut self, slot: usize, moved: Moved) {
+        let Traffic { received, sent } = self.slots.traffic(slot);
+        self.door.counts().count_turn(received, sent);
         match moved {
             Moved::Over => self.note_end(slot),
             Moved::Going => self.note_going(slot),
@@ -369,6 +379,9 @@ impl<'s, X: Clock + Wait> StreamReadiness<RequestHalf, ReplyHalf> for SocketDesk
 
     fn wait<T: Wait>(&mut self, _rt: &T, is_idle: bool) {
         self.settle();
+        if self.refusals.has_more(self.door.counts()) {
+            self.stop.counts().note_refused_puts(self.rt);
+        }
         self.door.set_active(self.slots.active());
         self.poll(is_idle);
         self.has_started = self.stop.is_started();

@@ -1,5 +1,6 @@
 //! What a worker shares with those who wake it, and with its sink.
 
+use crate::server_counts::WorkerCounts;
 use crate::slots::Slot;
 use job_pool::Bell;
 use mio::Waker;
@@ -31,11 +32,13 @@ pub(crate) struct Door {
     is_resting: AtomicBool,
     /// No slot, with room for as many as the worker may need next.
     wider: Mutex<Vec<Slot>>,
+    /// What the worker has done by now.
+    counts: Arc<WorkerCounts, Global>,
 }
 
 impl Door {
-    /// The worker has nothing and is to take nothing. This waker ends its wait.
-    pub(crate) fn new(alloc: Global, waker: Waker) -> Door {
+    /// The worker has nothing and is to take nothing. This waker ends its wait, and there is counted what it does.
+    pub(crate) fn new(alloc: Global, waker: Waker, counts: Arc<WorkerCounts, Global>) -> Door {
         Door {
             waker,
             load: AtomicUsize::new(0),
@@ -46,7 +49,13 @@ impl Door {
             is_cutting: AtomicBool::new(false),
             is_resting: AtomicBool::new(false),
             wider: Mutex::new(Vec::new(alloc)),
+            counts,
         }
+    }
+
+    /// What the worker has done by now.
+    pub(crate) fn counts(&self) -> &WorkerCounts {
+        &self.counts
     }
 
     /// Wakes the worker where it waits. The system refuses that only where a worker was woken so often, and hasn't waited since, that it

@@ -20,6 +20,9 @@ use worker_pool::{EndRead, EndWrite};
 /// How many bytes of replies are gathered at most before they are written to the socket.
 const MAX_GATHERED: usize = 8_192;
 
+/// The error for a frame that is too large, as a session writes it.
+const FRAME_TOO_LARGE: &[u8] = b"\0\0\0\x14\0\x0a\x0fframe too large\x10\x01";
+
 /// The half from which requests are read. A read that would have to wait returns `WouldBlock`. After the session's end it has let go of the
 /// socket, and reads as at the end of its input.
 #[derive(Drop)]
@@ -43,6 +46,8 @@ pub struct ReplyHalf {
     taken: GhostList<u8>,
     /// What was gathered and not sent when the session ended, for clauses alone.
     lost: GhostList<u8>,
+    /// Whether what was written last is the error for a frame that is too large.
+    is_too_large: bool,
 }
 
 impl Model for ReplyHalf {
@@ -172,7 +177,7 @@ impl Read for RequestHalf {
         let came = stream.read(buf);
         socket.note_result(&came);
         let taken = came?;
-        socket.note_moved(taken);
+        socket.note_received(taken);
         socket.note_read(taken, room);
         Ok(taken)
     }
@@ -195,7 +200,13 @@ impl ReplyHalf {
             sent: 0,
             taken: GhostList::new(),
             lost: GhostList::new(),
+            is_too_large: false,
         }
+    }
+
+    /// Whether what was written last is the error for a frame that is too large.
+    pub(crate) fn is_too_large(&self) -> bool {
+        self.is_too_large
     }
 
     /// Writes all that is gathered to the socket. `WouldBlock` where that doesn't take it all now: then so many bytes behind it wait too.
@@ -244,6 +255,7 @@ impl Write for ReplyHalf {
             result buf.now }
         ensures lost { self.new.lost ≡ self.old.lost }
     {
+        self.is_too_large = buf == FRAME_TOO_LARGE;
         if self.gathered.len() >= MAX_GATHERED {
             self.send_gathered(buf.len())?;
         }

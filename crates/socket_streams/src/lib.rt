@@ -2,8 +2,10 @@
 //! that rest, and each worker serves many connections, each as its socket is ready.
 //!
 //! ```text
-//! // four workers; each run has its own
-//! let (waits, stop) = new_run_waits(&rt, alloc, 4)?;
+//! // four workers, and what they do, which others may read meanwhile
+//! let counts = ServerCounts::new(alloc, 4)?;
+//! // each run has its own
+//! let (waits, stop) = new_run_waits(&rt, alloc, 4, &counts)?;
 //! // for each a sink, a readiness and a bell
 //! let seats = new_seats(&rt, alloc, &stop, waits.workers, waiting)?;
 //! let limits = Limits {
@@ -11,7 +13,7 @@
 //! };
 //! let arrivals = Arrivals::new(&rt, alloc, &listener, waits.accepting, &shared, &stop, limits)?;
 //! // `resting` of the run before; none at first
-//! let mut sessions = Sessions::new(alloc, arrivals, rested);
+//! let mut sessions = Sessions::new(alloc, arrivals, rested, Some(writer));
 //! // of `session_pool`
 //! serve(&rt, alloc, &shared, &mut sessions, seats, &Open, &stop, &mut seen)
 //! // by another thread: it returns, and what is open rests
@@ -22,6 +24,9 @@
 //! those that it closed for want of memory (`specs/Arriving`). [`Sessions`] gives each session that
 //! rests, once, and then one that is to begin for each of these connections (`specs/Sessions`:
 //! `GivesSession`). [`LogSink`] was told just the ends that it was told.
+//!
+//! [`ServerCounts`] says at any time what the workers have done by now: each number has one thread
+//! that raises it, and takes no lock.
 //!
 //! What it costs: a connection takes a descriptor, its passes, and 80 bytes beside its session; its
 //! replies are gathered in up to 8,192 bytes until what was read is answered, and go out by one
@@ -48,8 +53,8 @@
 //!
 //! # Tested
 //!
-//! What the rows of `worker_tests`, `scripts/maintain/try-requests` and
-//! `scripts/maintain/try-clients` try.
+//! What the rows of `worker_tests`, `scripts/maintain/try-requests`, `scripts/maintain/try-clients`
+//! and `scripts/maintain/try-control` try. So is what `ServerCounts` says.
 //!
 //! # Open
 //!
@@ -70,8 +75,10 @@ mod limits;
 mod lingering;
 mod log_sink;
 mod pause;
+mod refused_puts;
 mod replies_bound;
 mod reports;
+mod server_counts;
 mod sessions;
 mod slots;
 mod spare;
@@ -88,6 +95,7 @@ pub use door::SocketBell;
 pub use halves::{ReplyHalf, RequestHalf};
 pub use limits::Limits;
 pub use log_sink::LogSink;
+pub use server_counts::{ServerCounts, Work, WorkerCounts};
 pub use sessions::{Sessions, SocketSession};
 pub use stop::Stop;
 pub use waiting::Waiting;

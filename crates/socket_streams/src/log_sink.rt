@@ -62,9 +62,14 @@ fn is_cut(outcome: Result<Ended, SessionFault>, is_cutting: bool) -> bool {
     }
 }
 
-/// Logs that a connection ended because of a fault.
-fn log_fault<L: Log>(log: &L, peer: SocketAddr, fault: SessionFault) {
-    warn!(log; "connection from {peer} ended: {fault}");
+/// Logs that a connection ended because of a fault. A bad frame may have been one that is too large.
+fn log_fault<L: Log>(log: &L, peer: SocketAddr, fault: SessionFault, is_too_large: bool) {
+    match fault {
+        SessionFault::BadFrame(replies) if is_too_large => {
+            warn!(log; "connection from {peer} ended: frame too large after {replies} replies");
+        }
+        _ => warn!(log; "connection from {peer} ended: {fault}"),
+    }
 }
 
 /// Logs that a connection was closed while its client was silent.
@@ -78,13 +83,19 @@ pub(crate) fn log_refused<L: Log>(log: &L, peer: SocketAddr) {
 }
 
 /// Logs how a connection ended.
-fn log_end<L: Log>(log: &L, peer: SocketAddr, outcome: Result<Ended, SessionFault>, is_cut: bool) {
+fn log_end<L: Log>(
+    log: &L,
+    peer: SocketAddr,
+    outcome: Result<Ended, SessionFault>,
+    is_cut: bool,
+    is_too_large: bool,
+) {
     if is_cut {
         return log_closed(log, peer);
     }
     match outcome {
         Ok(_) => info!(log; "connection from {peer} ended"),
-        Err(fault) => log_fault(log, peer, fault),
+        Err(fault) => log_fault(log, peer, fault, is_too_large),
     }
 }
 
@@ -138,7 +149,8 @@ impl<'a, X: Log + Clock + Wait> EndSink<RequestHalf, ReplyHalf> for LogSink<'a, 
         reader.ended();
         writer.ended();
         let is_cut = is_cut(result, self.door.is_cutting());
-        log_end(self.rt, reader.peer(), result, is_cut);
+        let is_too_large = writer.is_too_large();
+        log_end(self.rt, reader.peer(), result, is_cut, is_too_large);
     }
 
     fn rest(&mut self, _number: usize)
@@ -151,6 +163,7 @@ impl<'a, X: Log + Clock + Wait> EndSink<RequestHalf, ReplyHalf> for LogSink<'a, 
         ensures { self.new ≡ self.old }
     {
         log_refused(self.rt, reader.peer());
+        self.door.counts().count_refused();
         self.door.count_end();
     }
 }

@@ -9,6 +9,8 @@ use job_pool::{JobFault, Jobs};
 use log::Log;
 use session_pool::Suspended;
 use std::alloc::Global;
+use std::io;
+use std::io::Write;
 use std::marker::Model;
 use std::net::{OpenListener, TcpStream};
 use std::os::fd::AsRawFd;
@@ -26,29 +28,32 @@ pub type SocketSession = Suspended<RequestHalf, ReplyHalf>;
 /// are given where the run is stopped or paused too. Those that weren't given come back by [`Sessions::into_rested`].
 ///
 /// ```text
-/// Sessions::new(alloc, arrivals, [[a, b], [], [c]])
+/// Sessions::new(alloc, arrivals, [[a, b], [], [c]], None)
 /// next, next, next      c, b, a
 /// next                  a session for the first connection that is accepted; none, once no more are to be
 /// ```
-pub struct Sessions<'a, X, L> {
+pub struct Sessions<'a, X, L, W> {
     alloc: Global,
     arrivals: Arrivals<'a, X, L>,
     /// Those that rest and weren't given yet.
     rested: Vec<Vec<SocketSession>>,
+    /// Where it is written at which address connections are accepted, until it was.
+    announcing: Option<&'a mut W>,
 }
 
 /// One call at each place where one is let go.
-impl<'a, X, L> Drop for Sessions<'a, X, L> {
+impl<'a, X, L, W> Drop for Sessions<'a, X, L, W> {
     fn drop(self) {
         let Sessions {
             alloc: _alloc,
             arrivals: _arrivals,
             rested: _rested,
+            announcing: _announcing,
         } = self;
     }
 }
 
-impl<'a, X, L> Model for Sessions<'a, X, L> {
+impl<'a, X, L, W> Model for Sessions<'a, X, L, W> {
     ghost use Rattle.std.specs.Prelude.{map};
     ghost use Rattle.socket_streams.specs.Sessions.{SessionsView, in_turn};
 
@@ -58,6 +63,13 @@ impl<'a, X, L> Model for Sessions<'a, X, L> {
       rested = in_turn (map (λ one. one.items) s.rested.items);
       source = s.arrivals;
     } };
+}
+
+/// Writes where a listener listens, in a line.
+fn write_address<L: OpenListener, W: Write>(listener: &L, writer: &mut W) -> io::Result<()> {
+    let address = listener.local_addr()?;
+    writeln!(writer, "listening {address}")?;
+    writer.flush()
 }
 
 /// Takes the last element of the last list that has one. None where each is empty.
@@ -76,13 +88,15 @@ fn take_last<T: Drop>(lists: &mut Vec<Vec<T>>) -> Option<T>
     None
 }
 
-impl<'a, X, L> Sessions<'a, X, L> {
-    /// Those that rest in these lists, and behind them those for the connections that come.
+impl<'a, X, L, W> Sessions<'a, X, L, W> {
+    /// Those that rest in these lists, and behind them those for the connections that come. Once all threads were
+    /// started, and before the first session is given, a line `listening ADDRESS` is written there, if that is asked for.
     pub fn new(
         alloc: Global,
         arrivals: Arrivals<'a, X, L>,
         rested: Vec<Vec<SocketSession>>,
-    ) -> Sessions<'a, X, L>
+        announcing: Option<&'a mut W>,
+    ) -> Sessions<'a, X, L, W>
         ensures rested { result.rested ≡ in_turn (map (λ one. one.items) rested.items) }
         ensures source { result.source ≡ arrivals.entry }
     {
@@ -90,6 +104,7 @@ impl<'a, X, L> Sessions<'a, X, L> {
             alloc,
             arrivals,
             rested,
+            announcing,
         }
     }
 
@@ -110,12 +125,13 @@ impl<'a, X, L> Sessions<'a, X, L> {
             alloc: _,
             arrivals: _arrivals,
             rested,
+            announcing: _announcing,
         } = self;
         rested
     }
 }
 
-impl<'a, X, L: OpenListener<Stream = TcpStream> + AsRawFd> Sessions<'a, X, L> {
+impl<'a, X, L: OpenListener<Stream = TcpStream> + AsRawFd, W> Sessions<'a, X, L, W> {
     /// How many connections were accepted.
     pub fn accepted(&self) -> u64
         ensures count { result ≡ self.now.source.given + self.now.source.refused }
@@ -145,10 +161,22 @@ impl<'a, X, L: OpenListener<Stream = TcpStream> + AsRawFd> Sessions<'a, X, L> {
     }
 }
 
-impl<'a, X, L> Jobs for Sessions<'a, X, L>
+impl<'a, X, L: OpenListener<Stream = TcpStream> + AsRawFd, W: Write> Sessions<'a, X, L, W> {
+    /// Writes where the listener listens, once, where that is asked for, as far as that can be done.
+    fn announce(&mut self)
+        ensures { self.new ≡ self.old }
+    {
+        if let Some(writer) = self.announcing.take() {
+            let _unheard = write_address(self.arrivals.listener(), writer);
+        }
+    }
+}
+
+impl<'a, X, L, W> Jobs for Sessions<'a, X, L, W>
 where
     X: Log + Clock + Wait,
     L: OpenListener<Stream = TcpStream> + AsRawFd,
+    W: Write,
 {
     type Job = SocketSession;
 
@@ -157,6 +185,7 @@ where
     ghost gives = { GivesSession };
 
     fn next(&mut self) -> Result<Option<SocketSession>, JobFault> {
+        self.announce();
         self.arrivals.start();
         if let Some(session) = self.next_rested() {
             return Ok(Some(session));

@@ -81,6 +81,13 @@ impl Line {
     }
 }
 
+/// How many bytes a connection has read and written in a turn.
+#[derive(Clone, Copy)]
+pub(crate) struct Traffic {
+    pub(crate) received: usize,
+    pub(crate) sent: usize,
+}
+
 impl Slots {
     /// There is none.
     pub(crate) fn new(alloc: Global) -> Slots {
@@ -170,6 +177,18 @@ impl Slots {
     pub(crate) fn begin_turn(&self, slot: usize) {
         if let Some(socket) = self.socket(slot) {
             socket.begin_turn();
+        }
+    }
+
+    /// How many bytes the connection in a slot has read in its turn, and how many it has written.
+    pub(crate) fn traffic(&self, slot: usize) -> Traffic {
+        let received = match self.socket(slot) {
+            Some(socket) => socket.received(),
+            None => 0,
+        };
+        Traffic {
+            received,
+            sent: self.moved(slot).saturating_sub(received),
         }
     }
 

@@ -2,6 +2,7 @@
 
 use crate::door::Door;
 use crate::pause::{PAUSE_MILLIS, SETTLE_MICROS};
+use crate::server_counts::ServerCounts;
 use mio::Waker;
 use session_pool::Pause;
 use std::alloc::Global;
@@ -18,7 +19,7 @@ use std::time::Duration;
 /// each run has a stop of its own.
 ///
 /// ```text
-/// let (waits, stop) = new_run_waits(&rt, alloc, 4)?;
+/// let (waits, stop) = new_run_waits(&rt, alloc, 4, &counts)?;
 /// serve(&rt, alloc, &shared, &mut sessions, seats, &Open, &stop, &mut seen)   // until another thread says one of these:
 /// stop.raise()                                                                // it returns once each session was ended
 /// stop.pause()                                                                // it returns with the sessions, which rest
@@ -37,11 +38,17 @@ pub struct Stop {
     is_pausable: AtomicBool,
     /// Whether serving has ended.
     is_over: AtomicBool,
+    /// What the server has done by now.
+    counts: Arc<ServerCounts, Global>,
 }
 
 impl Stop {
     /// No thread was started, it isn't raised, and doesn't pause the run. This waker ends the accepting thread's wait, and these doors those of the workers.
-    pub(crate) fn new(accepting: Waker, doors: Vec<Arc<Door, Global>>) -> Stop {
+    pub(crate) fn new(
+        accepting: Waker,
+        doors: Vec<Arc<Door, Global>>,
+        counts: Arc<ServerCounts, Global>,
+    ) -> Stop {
         Stop {
             accepting,
             doors,
@@ -52,7 +59,13 @@ impl Stop {
             is_pausing: AtomicBool::new(false),
             is_pausable: AtomicBool::new(false),
             is_over: AtomicBool::new(false),
+            counts,
         }
+    }
+
+    /// What the server has done by now.
+    pub(crate) fn counts(&self) -> &ServerCounts {
+        &self.counts
     }
 
     /// Whether all threads were started.

@@ -6,9 +6,11 @@ use crate::desk::SocketDesk;
 use crate::door::{Door, SocketBell};
 use crate::log_sink::LogSink;
 use crate::replies_bound::{RepliesBound, WaitingBytes};
+use crate::server_counts::ServerCounts;
 use crate::stop::Stop;
 use crate::waiting::Waiting;
 use job_pool::Post;
+use log::Log;
 use mio::unix::SourceFd;
 use mio::{Events, Interest, Poll, Token, Waker};
 use session_pool::Seat;
@@ -92,32 +94,40 @@ fn new_worker<X: Net>(
     net: &X,
     alloc: Global,
     doors: &mut Vec<Arc<Door, Global>>,
+    counts: &ServerCounts,
 ) -> io::Result<WorkerWaits> {
     let (waits, waker) = new_waits(net, alloc)?;
-    let door = Arc::new(alloc, Door::new(alloc, waker))?;
+    let counts = counts.share_worker(doors.len())?;
+    let door = Arc::new(alloc, Door::new(alloc, waker, counts))?;
     doors.push(Arc::try_clone(&door)?)?;
     Ok(WorkerWaits { waits, door })
 }
 
-/// What the threads of a run of so many workers wait with, and what stops or pauses the run. Refused where memory is, or a descriptor.
-pub fn new_run_waits<X: Net>(net: &X, alloc: Global, workers: u16) -> io::Result<(RunWaits, Stop)>
+/// What the threads of a run of so many workers wait with, and what stops or pauses the run. What they do is counted
+/// there, of as many workers. Refused where memory is, or a descriptor.
+pub fn new_run_waits<X: Net>(
+    net: &X,
+    alloc: Global,
+    workers: u16,
+    counts: &Arc<ServerCounts, Global>,
+) -> io::Result<(RunWaits, Stop)>
     ensures { IfOk result (λ made. length made.0.workers.items ≡ workers) }
 {
     let (accepting, waker) = new_waits(net, alloc)?;
     let mut waits = Vec::new(alloc);
     let mut doors = Vec::new(alloc);
     for _ in 0..workers {
-        waits.push(new_worker(net, alloc, &mut doors)?)?;
+        waits.push(new_worker(net, alloc, &mut doors, counts)?)?;
     }
     let made = RunWaits {
         accepting,
         workers: waits,
     };
-    Ok((made, Stop::new(waker, doors)))
+    Ok((made, Stop::new(waker, doors, Arc::try_clone(counts)?)))
 }
 
 /// What a worker that waits with these has in a run that is stopped so.
-fn new_post<'s, X: Clock + Wait>(
+fn new_post<'s, X: Clock + Log + Wait>(
     rt: &'s X,
     alloc: Global,
     stop: &'s Stop,
@@ -136,7 +146,7 @@ fn new_post<'s, X: Clock + Wait>(
 }
 
 /// The same of a run that keeps no ends, with a sink.
-fn new_seat<'a: 's, 's, X: Clock + Wait>(
+fn new_seat<'a: 's, 's, X: Clock + Log + Wait>(
     rt: &'a X,
     alloc: Global,
     stop: &'s Stop,
@@ -147,18 +157,20 @@ fn new_seat<'a: 's, 's, X: Clock + Wait>(
     ensures { IfOk result (λ seat. seat.sink ≡ []) }
 {
     let of_sink = Arc::try_clone(&worker.door)?;
+    let counts = worker.door.counts().sessions().try_clone()?;
     let bound = RepliesBound::of(waiting.replies_bytes, Arc::try_clone(replies)?);
     let Post { readiness, bell } = new_post(rt, alloc, stop, worker, waiting, bound)?;
     Ok(Seat {
         sink: LogSink::new(rt, alloc, of_sink),
         readiness: readiness.streams,
         bell,
+        counts: Some(counts),
     })
 }
 
 /// What the workers of a run that keeps all ends wait with, and are woken by. Its connections are waited for until they end. Refused where
 /// memory is.
-pub fn new_posts<'s, X: Clock + Wait>(
+pub fn new_posts<'s, X: Clock + Log + Wait>(
     rt: &'s X,
     alloc: Global,
     stop: &'s Stop,
@@ -181,7 +193,7 @@ pub fn new_posts<'s, X: Clock + Wait>(
 
 /// What the workers of a run that keeps no ends are started with, which wait so: a connection has been silent since the run began at most. Refused
 /// where memory is.
-pub fn new_seats<'a: 's, 's, X: Clock + Wait>(
+pub fn new_seats<'a: 's, 's, X: Clock + Log + Wait>(
     rt: &'a X,
     alloc: Global,
     stop: &'s Stop,

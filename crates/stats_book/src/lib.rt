@@ -9,7 +9,7 @@
 //! A session counts its replies by a [`CountReplies`], which also keeps whether there was no room
 //! for some of them (`specs/Counter`). A [`SessionCount`] counts by itself, with no book: who has
 //! served the session adds its numbers to [`Totals`] of his own, all five or none
-//! ([`Totals::add`]). A [`ReplyCounter`] counts for a share of a book, with no lock, until it is
+//! ([`Totals::add`]). It may raise [`LiveTotals`] as well, which other threads read meanwhile. A [`ReplyCounter`] counts for a share of a book, with no lock, until it is
 //! taken apart and its counts are in the share and in the book.
 //!
 //! What it costs: an addition to a book is one lock and one sum with a test for overflow.
@@ -45,6 +45,7 @@ mod count_replies;
 mod counter;
 mod fault;
 mod holding;
+mod live_totals;
 mod quantity;
 mod session_count;
 mod share;
@@ -56,6 +57,7 @@ pub use book::{Book, Opened, close};
 pub use count_replies::CountReplies;
 pub use counter::ReplyCounter;
 pub use fault::BookFault;
+pub use live_totals::LiveTotals;
 pub use quantity::Quantity;
 pub use session_count::SessionCount;
 pub use share::Share;

@@ -4,18 +4,22 @@ ghost use Rattle.stats_book.specs.Counter.{Counts, CountsReply, CountsAnswer};
 ghost use Rattle.stats_book.specs.Counting.{zeros};
 
 use crate::count_replies::CountReplies;
+use crate::live_totals::LiveTotals;
 use crate::quantity::Quantity;
 use crate::totals::Totals;
+use std::alloc::Global;
 use std::marker::Model;
+use std::sync::Arc;
 
 /// What one session counts by itself, with no book, and whether there was no room for some of what was to be counted.
-/// It takes no lock and no memory.
+/// It takes no lock and no memory. What it counts may be seen meanwhile in the live totals of its worker.
 ///
 /// A number that would pass 18,446,744,073,709,551,615 stays, and the count remembers that.
 #[derive(Drop)]
 pub struct SessionCount {
     counted: Totals,
     is_full: bool,
+    live: Option<Arc<LiveTotals, Global>>,
 }
 
 impl Model for SessionCount {
@@ -31,9 +35,17 @@ impl SessionCount {
     pub fn new() -> SessionCount
         ensures { result ≡ record { counted = zeros; book_full = false } }
     {
+        SessionCount::seen_in(None)
+    }
+
+    /// The same, of which what it counts is seen in these live totals, if there are such.
+    pub fn seen_in(live: Option<Arc<LiveTotals, Global>>) -> SessionCount
+        ensures { result ≡ record { counted = zeros; book_full = false } }
+    {
         SessionCount {
             counted: Totals::zeros(),
             is_full: false,
+            live,
         }
     }
 
@@ -42,7 +54,11 @@ impl SessionCount {
         ensures counted { result.0 ≡ self.counted }
         ensures full { result.1 ≡ self.book_full }
     {
-        let SessionCount { counted, is_full } = self;
+        let SessionCount {
+            counted,
+            is_full,
+            live: _live,
+        } = self;
         (counted, is_full)
     }
 
@@ -52,6 +68,15 @@ impl SessionCount {
     {
         if !self.counted.raise(quantity, amount) {
             self.is_full = true;
+        }
+        self.show(quantity, amount);
+    }
+
+    /// So many of a quantity are seen in the live totals.
+    #[inline(always)]
+    fn show(&self, quantity: Quantity, amount: u64) {
+        if let Some(live) = &self.live {
+            live.raise(quantity, amount);
         }
     }
 

@@ -1,9 +1,9 @@
 -- The lemmas of this crate.
-pub mod Keeping
+pub mod SameGates
+pub mod Staying
 pub mod Closing
 pub mod Ends
 pub mod Summing
-pub mod Together
 pub mod Histories
 pub mod InHistories
 pub mod Runs

@@ -25,6 +25,11 @@ pub if_ok_three : {A B : Type 0} (P Q R S : A → Type 0) (r : Result A B) → (
 if_ok_three P Q R S (Ok a) f p q r = f a p q r
 if_ok_three P Q R S (Err b) f p q r = p
 
+-- a run over gates that are the run's own
+pub over_own : {J I O : Type 0} (Gives : J → Result (Option (Job I O)) JobFault → J → Type 0) (remaining : I → Option (List ℕ)) (contents : O → Option (List ℕ)) (own shared : Gates) (first last : J) (firsts : List Totals) (served : List (ServedJob I O)) (lasts : List Totals) → own ≡ shared
+    → AllServedOnce Gives (Counts remaining contents own) first firsts served lasts last → AllServedOnce Gives (Counts remaining contents shared) first firsts served lasts last
+over_own Gives remaining contents own shared first last firsts served lasts is h = subst (λ (gates : Gates). AllServedOnce Gives (Counts remaining contents gates) first firsts served lasts last) is h
+
 module _ {J I O : Type 0} (Gives : J → Result (Option (Job I O)) JobFault → J → Type 0) (remaining : I → Option (List ℕ)) (contents : O → Option (List ℕ)) (shared : Gates) (first last : J) where
   -- the jobs of the source were served
   pub source_served : (firsts : List Totals) (served : List (ServedJob I O)) (lasts : List Totals) → AllServedOnce Gives (Counts remaining contents shared) first firsts served lasts last → AllServed Gives (Serves GateNodeStep remaining contents shared) first served last

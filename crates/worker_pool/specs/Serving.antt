@@ -5,16 +5,15 @@ use Rattle.node_session.specs.declared.ended.Ended.{Ended}
 use Rattle.node_session.specs.declared.fault.SessionFault.{SessionFault}
 use Rattle.node_session.specs.Answered.{AnsweredInput}
 use Rattle.node_session.specs.Session.{Given, IsInputEnd, Stops, IsTooManyReads, MadeReads}
-use Rattle.node_session.specs.Courses.{Came}
 use Rattle.stats_book.specs.Counting.{both, zeros}
 use Rattle.stats_book.specs.declared.totals.Totals.{Totals}
 pub use Rattle.gate_node.specs.Gates.{Gates}
 use Rattle.gate_node.specs.GateStep.{NodeOverGates, GateNodeStep, Request, Reply}
 pub use Rattle.gate_node.specs.Passes.{Sights, ArePassesOf, AreUnused}
+use Rattle.session_pool.specs.Suspending.{SuspendedView, StayView, StaysOver, begun}
 use Rattle.worker_pool.specs.declared.job.Job.{Job}
 use Rattle.worker_pool.specs.declared.job.End.{End}
 use Rattle.worker_pool.specs.declared.server.ServedJob.{ServedJob}
-use Rattle.worker_pool.specs.Sitting.{SittingView}
 
 module _ {I O : Type 0} where
   abbrev pub IsForGates : Gates → Job I O → Type 0
@@ -72,11 +71,15 @@ module _ {I O : Type 0} where
         × (before.count.counted ≡ zeros) × (served.book_full ≡ false → last ≡ both first after.count.counted)
         × Joins GateNodeStep remaining contents shared job served before after
 
-    -- the session of the job has come so far, by a node over these gates by the job's passes, which had counted nothing
-    pub record StandsOver (job : Job I O) (sitting : SittingView NodeOverGates I O) : Type 0 where
-      pub first : NodeOverGates
-      pub gates : first.shared ≡ shared
-      pub by_passes : first.passes ≡ job.passes
-      pub unused : first.count ≡ record { counted = zeros; book_full = false }
-      pub reads : sitting.talk.most ≡ shared.reads
-      pub came : Came GateNodeStep first sitting.node (remaining job.reader) (remaining sitting.reader) (contents job.writer) (contents sitting.writer) sitting.stage sitting.talk
+    -- the job as a session that is to begin over the gates
+    abbrev pub session_of : Job I O → SuspendedView I O
+    session_of job = begun (record {
+      gates = shared;
+      passes = job.passes;
+      unread = remaining job.reader;
+      held = contents job.writer;
+    }) job.reader job.writer
+
+    -- the job's session went on over the gates
+    abbrev pub StandsFor : Job I O → StayView I O → Type 0
+    StandsFor job opened = StaysOver shared (session_of job) opened

@@ -11,13 +11,13 @@ use crate::closed::Closed;
 use crate::job::{End, EndRead, EndWrite, Job};
 use crate::server::{ServedJob, Server};
 use crate::stream_readiness::{Shown, new_rounds};
-use crate::tray::{Tray, new_trays, sum_up};
 use gate_node::{PoolFault, Shared, Turnstile, tallies_of};
 use job_pool::{
     Bell, Finished, Jobs, Post, Rounds, RunFault, StreamReadiness, Wake, Wakes, run_with,
 };
+use session_pool::{Host, NoPause, OfGates, Tray, new_trays, sum_up};
 use std::alloc::Global;
-use std::marker::PhantomData;
+use std::marker::Brand;
 use std::sync::Wait;
 use std::thread::Threads;
 
@@ -97,8 +97,8 @@ where
     }
 }
 
-/// A run by workers at these posts.
-fn run_at_posts<X, J, I, O, T, Y, B>(
+/// A run by workers at these posts, over the gates that `H` names.
+fn run_at_posts<H, X, J, I, O, T, Y, B>(
     rt: &X,
     alloc: Global,
     shared: &Shared,
@@ -109,6 +109,7 @@ fn run_at_posts<X, J, I, O, T, Y, B>(
     turnstile: &T,
 ) -> Result<Closed<I, O>, PoolFault>
 where
+    H: OfGates + Sync + Send,
     X: Threads + Wait + Sync,
     J: Jobs<Job = Job<I, O>>,
     I: EndRead + Drop + Send + Sync,
@@ -116,6 +117,7 @@ where
     T: Turnstile + Sync,
     Y: StreamReadiness<I, O> + Drop + Send,
     B: Bell + Drop,
+    requires of_run { shared.now ≡ H.gates }
     requires workers { 1 ≤ workers }
     requires posts { length posts.items ≡ workers }
     requires jobs { GivesOnly J.gives (IsForGates shared.now) jobs.old }
@@ -129,10 +131,7 @@ where
         return Err(PoolFault::NoMemory);
     };
     let server = Server {
-        rt,
-        shared,
-        turnstile,
-        jobs: PhantomData,
+        host: Host::<H, X, T, NoPause, I, O>::new(rt, shared, turnstile, &NoPause),
     };
     match run_with(rt, alloc, &server, jobs, trays, posts, wakes) {
         Ok(finished) => finish(rt, alloc, shared, finished),
@@ -194,7 +193,7 @@ impl Pool {
         let Ok(posts) = new_rounds(alloc, workers) else {
             return Err(PoolFault::NoMemory);
         };
-        run_at_posts(
+        run_at_posts::<Brand, X, J, I, O, T, Rounds, Wake>(
             rt,
             alloc,
             shared,
@@ -236,7 +235,7 @@ impl Pool {
         ensures fault { IfErr result (λ fault.
             LeavesSource J.gives I.remaining O.contents shared.now fault jobs.old jobs.new) }
     {
-        run_at_posts(
+        run_at_posts::<Brand, X, J, I, O, T, Y, B>(
             rt,
             alloc,
             shared,

@@ -1,13 +1,12 @@
-//! A worker's service: sessions over the gates, in steps, each by a node of its own.
+//! The service of the workers of a run: each job as a session that is served to its end.
 
 use crate::job::{End, EndRead, EndWrite, Job};
-use crate::sitting::Sitting;
-use crate::tray::Tray;
-use gate_node::{GateNode, Shared, Turnstile};
+use gate_node::Turnstile;
 use job_pool::{Moved, Service};
-use stats_book::SessionCount;
+use session_pool::{
+    EndedSession, Host, Left, LeftSession, NoPause, OfGates, Stay, Suspended, Tray,
+};
 use std::alloc::Global;
-use std::marker::PhantomData;
 use std::sync::Wait;
 
 /// An end, and whether its worker had no room for all that there was to be counted in it.
@@ -17,17 +16,16 @@ pub struct ServedJob<I, O> {
     pub book_full: bool,
 }
 
-/// Serves the jobs of a run. All workers share it.
+/// Serves the jobs of a run, each as a session which never rests, over the gates that `H` names. All
+/// workers share it.
 #[derive(Drop)]
-pub struct Server<'a, X, T, I, O> {
-    pub(crate) rt: &'a X,
-    pub(crate) shared: &'a Shared,
-    pub(crate) turnstile: &'a T,
-    pub(crate) jobs: PhantomData<Job<I, O>>,
+pub struct Server<'a, H: OfGates, X, T, I, O> {
+    pub(crate) host: Host<'a, H, X, T, NoPause, I, O>,
 }
 
-impl<'a, X, T, I, O> Service for Server<'a, X, T, I, O>
+impl<'a, H, X, T, I, O> Service for Server<'a, H, X, T, I, O>
 where
+    H: OfGates + Sync,
     X: Wait + Sync,
     T: Turnstile + Sync,
     I: EndRead + Drop + Send + Sync,
@@ -39,71 +37,65 @@ where
 
     type Worker = Tray;
 
-    type Open = Sitting<GateNode<'a, X, T, SessionCount>, I, O>;
+    type Open = Stay<'a, X, T, I, O>;
 
     ghost use Rattle.node_session.specs.Courses.{IsOver};
-    ghost use Rattle.worker_pool.specs.Serving.{IsForGates, CountsInSession, StandsOver};
+    ghost use Rattle.worker_pool.specs.Serving.{IsForGates, CountsInSession, StandsFor};
 
-    ghost accepts = { λ server job. IsForGates server.shared.now job };
+    ghost accepts = { λ server job. IsForGates server.host job };
 
     ghost stands = { λ server job opened.
-        StandsOver I.remaining O.contents server.shared.now job opened };
+        StandsFor I.remaining O.contents server.host job opened };
 
     ghost is_over = { λ opened. IsOver opened.stage };
 
-    ghost serves = { λ server. CountsInSession I.remaining O.contents server.shared.now };
+    ghost serves = { λ server. CountsInSession I.remaining O.contents server.host };
 
     fn open(
         &self,
         alloc: Global,
-        _worker: &mut Tray,
+        worker: &mut Tray,
         job: Job<I, O>,
-    ) -> Result<Sitting<GateNode<'a, X, T, SessionCount>, I, O>, Job<I, O>> {
+    ) -> Result<Stay<'a, X, T, I, O>, Job<I, O>> {
         let Job {
             reader,
             writer,
             passes,
         } = job;
-        let node = GateNode::counting_by(
-            self.rt,
-            self.shared,
-            SessionCount::new(),
-            passes,
-            self.turnstile,
-        );
-        let reads = self.shared.reads();
-        Ok(Sitting::new(alloc, node, reader, writer, reads))
+        let session = Suspended::new(alloc, self.host.shared(), passes, reader, writer);
+        Ok(self.host.go_on(worker, session))
     }
 
     fn step(
         &self,
         alloc: Global,
         worker: &mut Tray,
-        opened: &mut Sitting<GateNode<'a, X, T, SessionCount>, I, O>,
+        opened: &mut Stay<'a, X, T, I, O>,
         may_wait: bool,
     ) -> Moved {
-        opened.step(alloc, &mut worker.scratch, may_wait)
+        self.host.step(alloc, worker, opened, may_wait)
     }
 
-    fn close(
-        &self,
-        worker: &mut Tray,
-        opened: Sitting<GateNode<'a, X, T, SessionCount>, I, O>,
-    ) -> ServedJob<I, O> {
-        let (result, mut reader, mut writer, node) = opened.parts(&mut worker.scratch);
+    fn close(&self, worker: &mut Tray, opened: Stay<'a, X, T, I, O>) -> ServedJob<I, O> {
+        let LeftSession { left, book_full } = self.host.leave(worker, opened);
+        let Left::Ended(ended) = left else {
+            unreachable!()
+        };
+        let EndedSession {
+            result,
+            mut reader,
+            mut writer,
+            passes,
+            origin: _,
+        } = ended;
         reader.ended();
         writer.ended();
-        let (count, passes) = node.into_counter();
-        let is_added = worker.add(count);
         let end = End {
             result,
             reader,
             writer,
             passes,
         };
-        ServedJob {
-            end,
-            book_full: !is_added,
-        }
+        ServedJob { end, book_full }
     }
 }

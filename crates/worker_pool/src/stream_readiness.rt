@@ -3,10 +3,9 @@ ghost use Rattle.std.specs.Prelude.{◌≡◌, length, IfOk};
 
 use crate::job::{EndRead, EndWrite};
 use crate::server::Server;
-use crate::sitting::Sitting;
-use gate_node::{GateNode, Turnstile};
+use gate_node::Turnstile;
 use job_pool::{Moved, Post, Readiness, Rounds, StreamReadiness, Turn, Wake};
-use stats_book::SessionCount;
+use session_pool::{OfGates, Stay};
 use std::alloc::{AllocError, Global};
 use std::sync::Wait;
 
@@ -16,9 +15,10 @@ pub struct Shown<Y> {
     pub streams: Y,
 }
 
-impl<'a, Y, X, T, I, O> Readiness<Server<'a, X, T, I, O>> for Shown<Y>
+impl<'a, Y, H, X, T, I, O> Readiness<Server<'a, H, X, T, I, O>> for Shown<Y>
 where
     Y: StreamReadiness<I, O>,
+    H: OfGates + Sync,
     X: Wait + Sync,
     T: Turnstile + Sync,
     I: EndRead + Drop + Send + Sync,
@@ -28,7 +28,7 @@ where
         self.streams.takes(is_idle)
     }
 
-    fn begin(&mut self, slot: usize, opened: &Sitting<GateNode<'a, X, T, SessionCount>, I, O>) {
+    fn begin(&mut self, slot: usize, opened: &Stay<'a, X, T, I, O>) {
         self.streams.begin(slot, opened.reader(), opened.writer());
     }
 

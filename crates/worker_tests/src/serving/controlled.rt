@@ -18,13 +18,18 @@ use std::thread::Threads;
 use std::time::Duration;
 use std::{io, thread};
 
-/// Takes the line of the address, where it comes first, and then just the text that is due.
+/// Takes the line of the address, where it comes first, and then just the text that is due, in which `#` stands for a digit.
 #[derive(Drop)]
 struct Transcript<'a> {
     is_begun: bool,
     due: &'static [u8],
     /// How much of the text hasn't come.
     left: &'a AtomicUsize,
+}
+
+/// Whether a byte comes where this one is due.
+fn is_due(due: u8, byte: u8) -> bool {
+    due == byte || (due == b'#' && byte.is_ascii_digit())
 }
 
 impl<'a> Transcript<'a> {
@@ -36,7 +41,7 @@ impl<'a> Transcript<'a> {
         }
         match self.due.first() {
             Some(first) => {
-                if *first != byte {
+                if !is_due(*first, byte) {
                     return false;
                 }
                 self.due = &self.due[1..];
@@ -157,7 +162,7 @@ const SERVERS: &[Controls] = &[
         operators: &[
             b"totals\ndiverted\ncopy 0 1\nreturn 0\ndivert 0\ndiverted\ndivert 0\ncopy 0 1\nreturn 0\ncopy 0 1\ndivert 1\ncopy 7 1\nreturn 9\nDivert 0\ndivert 0\r\nstop\ntotals\n",
         ],
-        answers: b"gets 0 puts 0 deletes 0 refusals 0 reaps 0 connections 0 keys 0 siblings 0 dead 0 bytes 0\ndiverted now:\nrefused: partition 0 isn't diverted\nrefused: partition 0 isn't diverted\ndiverted 0\ndiverted now: 0\nrefused: partition 0 is diverted already\ncopied 0 keys 0 whole\nreturned 0\nrefused: partition 0 isn't diverted\nrefused: there is no partition 1\nrefused: there is no partition 7\nrefused: there is no partition 9\nrefused: no such command; help lists them\ndiverted 0\n",
+        answers: b"gets 0 puts 0 deletes 0 refusals 0 reaps 0 connections 0 keys 0 siblings 0 dead 0 bytes 0\ndiverted now:\nrefused: partition 0 isn't diverted\nrefused: partition 0 isn't diverted\ndiverted 0\ndiverted now: 0 for # s\nrefused: partition 0 is diverted already\ncopied 0 keys 0 whole\nreturned 0\nrefused: partition 0 isn't diverted\nrefused: there is no partition 1\nrefused: there is no partition 7\nrefused: there is no partition 9\nrefused: no such command; help lists them\ndiverted 0\n",
         steps: &[],
         connections: 0,
         returned: 1,

@@ -7,7 +7,7 @@ use crate::workers::kept_ends::KeptEnds;
 use crate::workers::streams::{Counts, Input, Output};
 use crossbeam_utils::sync::{Parker, Unparker};
 use job_pool::{Bell, Moved, Turn};
-use session_pool::{Seat, StreamReadiness};
+use session_pool::{LiveCounts, Seat, StreamReadiness};
 use std::alloc::{AllocError, Global};
 use std::sync::atomic::Ordering;
 use std::sync::{Arc, Wait};
@@ -59,7 +59,19 @@ fn new_seat(
             counts: Arc::try_clone(counts)?,
         },
         bell: Wake { unparker },
+        counts: Some(LiveCounts::new(alloc)?),
     })
+}
+
+/// The live counts of these seats.
+pub fn live_of(alloc: Global, seats: &[TestSeat]) -> Result<Vec<LiveCounts>, AllocError> {
+    let mut live = Vec::new(alloc);
+    for seat in seats {
+        if let Some(counts) = &seat.counts {
+            live.push(counts.try_clone()?)?;
+        }
+    }
+    Ok(live)
 }
 
 /// One seat or two, each with memory for so many sessions.

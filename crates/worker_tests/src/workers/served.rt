@@ -8,11 +8,11 @@ use crate::exchanges::{NOTHING_ACCEPTED, NOTHING_COUNTED, new_shared};
 use crate::workers::kept_ends::KeptEnds;
 use crate::workers::runs::{RUNS, Run, THREE_JOBS, are_streams, are_tallies, is_accepted};
 use crate::workers::script::{Line, Wires};
-use crate::workers::seats::{TestSeat, new_seats};
+use crate::workers::seats::{TestSeat, live_of, new_seats};
 use crate::workers::sessions::{TestServed, play_new};
 use crate::workers::streams::{Counts, Input, Output};
 use gate_node::tallies_of;
-use session_pool::{Passes, PoolFault, SessionEnd, Shared};
+use session_pool::{LiveCounts, Passes, PoolFault, SessionEnd, Shared};
 use stats_book::Totals;
 use std::alloc::Global;
 use std::process::Abort;
@@ -95,6 +95,17 @@ pub fn is_served(served: &TestServed, run: &Run, has_room: bool) -> bool {
         && none_rests(served)
 }
 
+/// Whether the live counts of workers that are paused or joined are these totals.
+fn are_live(live: &[LiveCounts], totals: Totals) -> bool {
+    let mut sum = Totals::zeros();
+    for counts in live {
+        if !sum.add(&counts.totals().now()) {
+            return false;
+        }
+    }
+    !live.is_empty() && sum == totals
+}
+
 /// Whether no session of a run rests.
 fn none_rests(served: &TestServed) -> bool {
     for resting in &served.resting {
@@ -137,9 +148,13 @@ fn serve_seated<X: Threads + Wait + Sync>(
     requires new { Every (IsNewSeat (λ sink. sink.ends.items)
         (λ sink n. vec_len sink.ends + n ≤ vec_capacity sink.ends)) seats.items }
 {
+    let Ok(live) = live_of(wires.alloc, seats.as_slice()) else {
+        return false;
+    };
     match play_new(rt, shared, wires, run, seats, seen) {
         Ok(served) => {
             is_served(&served, run, has_room)
+                && are_live(live.as_slice(), served.totals)
                 && has_tallies(rt, wires.alloc, shared, seen, served.totals, run)
         }
         Err(fault) => run.totals == Err(fault),

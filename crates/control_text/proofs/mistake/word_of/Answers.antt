@@ -10,3 +10,4 @@ returns c = no_word c.args.text.now
     (λ begins. refuted c.begins_with-5.result (c.begins_with-5.ensures.1 begins) c.if-begins_with-5.false)
     (λ begins. refuted c.begins_with-6.result (c.begins_with-6.ensures.1 begins) c.if-begins_with-6.false)
     (λ begins. refuted c.begins_with-7.result (c.begins_with-7.ensures.1 begins) c.if-begins_with-7.false)
+    (λ begins. refuted c.begins_with-8.result (c.begins_with-8.ensures.1 begins) c.if-begins_with-8.false)

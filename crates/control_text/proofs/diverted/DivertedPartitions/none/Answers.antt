@@ -1,8 +1,5 @@
-use Rattle.control_text.proofs.Indices.{none_written, none_counted}
+use Rattle.std.proofs.Common.{rules}
 use Rattle.control_text.proofs.diverted.DivertedPartitions.none.Goals as goal
 
 pub returns : goal.returns
-returns c = record {
-  none = none_written 1024;
-  count = none_counted 1024;
-}
+returns c = record { none = c.in_ok-vec.ensures.items_if_clones_equal (search rules) }

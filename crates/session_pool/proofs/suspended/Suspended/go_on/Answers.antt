@@ -10,21 +10,21 @@ pub counting_by-requires : goal.counting_by-requires
 counting_by-requires g c =
     let session = c.self.inside in
     let shared = c.args.shared.now in
-    let later = subst (λ (s : SuspendedView g.row.R.Denot g.row.W.Denot). IsLater s.over shared) (sym c.self.view_is) c.requires.later in
+    let later = subst (λ (s : SuspendedView g.row.R.Denot g.row.W.Denot). IsLater s.over shared) (sym c.self.view_is) c.requires.goes.later in
     subst (λ (passes : Sights). ArePassesOf shared passes) (sym c.self.invariant.0) (passes_later (gates_in session.over) shared session.rest.passes later c.self.invariant.1.of_gates)
 
 pub resumed-requires-clause-later : goal.resumed-requires-clause-later
 resumed-requires-clause-later g c =
     let session = c.self.inside in
     let shared = c.args.shared.now in
-    let later = subst (λ (s : SuspendedView g.row.R.Denot g.row.W.Denot). IsLater s.over shared) (sym c.self.view_is) c.requires.later in
+    let later = subst (λ (s : SuspendedView g.row.R.Denot g.row.W.Denot). IsLater s.over shared) (sym c.self.view_is) c.requires.goes.later in
     later_on session.rest.shared (gates_in session.over) shared c.self.invariant.1.rested_before later
 
 pub invariant_of-result : goal.invariant_of-result
 invariant_of-result g c =
     let inside = c.self.inside in
     let shared = c.args.shared.now in
-    let later = subst (λ (s : SuspendedView g.row.R.Denot g.row.W.Denot). IsLater s.over shared) (sym c.self.view_is) c.requires.later in
+    let later = subst (λ (s : SuspendedView g.row.R.Denot g.row.W.Denot). IsLater s.over shared) (sym c.self.view_is) c.requires.goes.later in
     let session : SuspendedView g.row.R.Denot g.row.W.Denot = record {
       origin = inside.origin;
       rest = inside.rest;

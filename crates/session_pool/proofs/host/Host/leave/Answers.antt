@@ -5,10 +5,10 @@ use Rattle.session_pool.specs.declared.host.LeftSession.{LeftSession}
 use Rattle.session_pool.specs.Serving.{CountsInStay}
 use Rattle.session_pool.proofs.Counted.{counts_in_stay}
 use Rattle.session_pool.proofs.Resting.{rests_where}
-use Rattle.session_pool.proofs.host.HostService.close.Goals as goal
+use Rattle.session_pool.proofs.host.Host.leave.Goals as goal
 
-pub returns : goal.returns
-returns g c = λ session stands.
+pub returns-clause-counts : goal.returns-clause-counts
+returns-clause-counts g c = λ session stands.
     let shared = c.args.self.now in
     let left = c.leave-left in
     let added = c.add-is_added in
