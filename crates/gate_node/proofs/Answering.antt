@@ -37,7 +37,8 @@ use Rattle.vnode_core.specs.Refusals.{number_of}
 use Rattle.vnode_core.proofs.Entries.{all_commands-commands_of, commands_before, commands_begin, commands_of-all_commands, commands_of-append}
 use Rattle.rw_gate.specs.declared.asking.AskOutcome.{AskOutcome}
 use Rattle.rw_gate.specs.declared.asking.AskOutcome.TheVariants as Outcomes
-use Rattle.node_session.specs.PlainStep.{answer_reply, reply_of}
+use Rattle.vnode_core.specs.Replies.{answer_reply}
+use Rattle.node_session.specs.PlainStep.{reply_of}
 use Rattle.stats_book.specs.declared.quantity.Quantity.{Quantity}
 use Rattle.gate_node.specs.Asked.{Sight, state_of, Gets, ComesOf, IsMadeBy, IsSaidOf, RepliesToGet, outcome_reply}
 use Rattle.gate_node.specs.Registers.{VnodeId, Commands, history_of, AnswersAmongOthers, IsGateError}

@@ -34,7 +34,7 @@ use Rattle.vnode_core.specs.Events.{AsksReap, EntryAsks, AnsweredBy}
 use Rattle.vnode_core.specs.Plans.{IsAnsweredUnchanged, IsWrite}
 use Rattle.node_session.specs.Answers.{AnswersRead, AnswersInTurn, message_fault_text}
 use Rattle.node_session.specs.PlainNodes.{partition_of}
-use Rattle.node_session.specs.PlainStep.{answer_reply}
+use Rattle.vnode_core.specs.Replies.{answer_reply}
 use Rattle.rw_gate.specs.declared.asking.AskOutcome.{AskOutcome}
 use Rattle.rw_gate.specs.declared.asking.AskOutcome.TheVariants.{Made, Told, Moved, Full}
 use Rattle.rw_gate.specs.declared.asking.AskOutcome.TheVariants as Outcomes

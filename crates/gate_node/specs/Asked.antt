@@ -23,7 +23,8 @@ use Rattle.vnode_core.specs.Plans.{IsAnsweredUnchanged, Refuses}
 use Rattle.vnode_core.specs.Refusals.{number_of}
 use Rattle.vnode_core.specs.Events.{Makes, EntryAsks, AnsweredBy}
 use Rattle.sibling_register.specs.Refusals.{refusal_text}
-use Rattle.node_session.specs.PlainStep.{answer_reply, StepsBy}
+use Rattle.vnode_core.specs.Replies.{answer_reply}
+use Rattle.node_session.specs.PlainStep.{StepsBy}
 use Rattle.rw_gate.specs.declared.asking.AskOutcome.{AskOutcome}
 use Rattle.rw_gate.specs.declared.asking.AskOutcome.TheVariants.{Made, Told, Refused, Moved, Full}
 use Rattle.rw_gate.specs.Asking.{Comes, IsMade, IsSaid, IsOvertaken, SeesUnder as SeesHistory}

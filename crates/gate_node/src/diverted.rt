@@ -6,12 +6,12 @@ ghost use Rattle.gate_node.specs.Asked.{ComesOf, IsOfOpenVnode, IsShownOpen, Sho
 ghost use Rattle.gate_node.specs.Passes.{AnswersAtFallback, AnswersBy, FindsClosed};
 ghost use Rattle.gate_node.specs.Passes.{FitsPartition, IsClosedBy};
 
+use crate::call::Call;
 use crate::gated_vnode::ask_seen;
 use crate::get_answer::GetAnswer;
 use crate::passes::{FallbackPass, renew};
 use crate::replies::counted_reply;
 use crate::reserve::ReserveOf;
-use crate::shared::Shared;
 use crate::turnstile::Turnstile;
 use handoff::Fallback;
 use riak_msgs::{GetAsk, Reply, Text};
@@ -44,11 +44,7 @@ fn show_open<A: GetAnswer>(
 
 /// Answers a get, under a right to read, behind the turnstile; or gives the number of the vnode's close.
 fn answer_get_open<W: Wait, T: Turnstile, A: GetAnswer>(
-    rt: &W,
-    alloc: Global,
-    shared: &Shared,
-    turnstile: &T,
-    reserve: ReserveOf<'_>,
+    call: Call<'_, W, T>,
     gate: &Gate<Vnode>,
     pass: &mut Pass<Vnode>,
     get: &GetAsk,
@@ -65,11 +61,11 @@ fn answer_get_open<W: Wait, T: Turnstile, A: GetAnswer>(
     ensures closed { IfErr result (λ number. IsClosedWith number pass.old pass.new) }
     ensures free { OnErr result (A.is_free frame.new) }
 {
-    let right = gate.read(rt);
-    shared.enter(turnstile);
+    let right = gate.read(call.rt);
+    call.shared.enter(call.turnstile);
     match right.look(pass) {
         Ok(vnode) => {
-            let found = show_open::<A>(vnode, alloc, reserve, get, frame, room);
+            let found = show_open::<A>(vnode, call.alloc, call.reserve, get, frame, room);
             right.release();
             found
         }
@@ -108,11 +104,7 @@ fn ask_open_under(
 /// Answers what may change the vnode, under a right to write, behind the turnstile, and what that is counted as; or gives the number of
 /// the vnode's close, and the ask. The right is given back then, so that the caller has none while it asks for another.
 fn answer_change_open<W: Wait, T: Turnstile>(
-    rt: &W,
-    alloc: Global,
-    shared: &Shared,
-    turnstile: &T,
-    reserve: ReserveOf<'_>,
+    call: Call<'_, W, T>,
     gate: &Gate<Vnode>,
     pass: &mut Pass<Vnode>,
     change: Ask,
@@ -124,10 +116,10 @@ fn answer_change_open<W: Wait, T: Turnstile>(
     ensures closed { IfErr result (λ back. IsClosedWith back.0 pass.old pass.new) }
     ensures same { IfErr result (λ back. back.1 ≡ change) }
 {
-    let has_room = reserve.has_room_for(alloc, &change);
-    let mut right = gate.write(rt);
-    shared.enter(turnstile);
-    let found = ask_open_under(&mut right, alloc, pass, change, has_room);
+    let has_room = call.reserve.has_room_for(call.alloc, &change);
+    let mut right = gate.write(call.rt);
+    call.shared.enter(call.turnstile);
+    let found = ask_open_under(&mut right, call.alloc, pass, change, has_room);
     right.release();
     match found {
         Ok(outcome) => Ok(counted_reply(outcome)),
@@ -137,11 +129,7 @@ fn answer_change_open<W: Wait, T: Turnstile>(
 
 /// Answers a get at a fallback by a pass of it, or gives the number of its close, which the pass keeps.
 fn get_by<W: Wait, T: Turnstile, A: GetAnswer>(
-    rt: &W,
-    alloc: Global,
-    shared: &Shared,
-    turnstile: &T,
-    reserve: ReserveOf<'_>,
+    call: Call<'_, W, T>,
     gate: &Gate<Vnode>,
     kept: &mut FallbackPass,
     get: &GetAsk,
@@ -160,18 +148,7 @@ fn get_by<W: Wait, T: Turnstile, A: GetAnswer>(
     if let Some(number) = kept.closed {
         return Err(number);
     }
-    match answer_get_open::<W, T, A>(
-        rt,
-        alloc,
-        shared,
-        turnstile,
-        reserve,
-        gate,
-        &mut kept.pass,
-        get,
-        frame,
-        room,
-    ) {
+    match answer_get_open::<W, T, A>(call, gate, &mut kept.pass, get, frame, room) {
         Ok(reply) => {
             let quantity = Some(reply.quantity());
             Ok((reply, quantity))
@@ -185,11 +162,7 @@ fn get_by<W: Wait, T: Turnstile, A: GetAnswer>(
 
 /// Answers what may change a vnode at a fallback by a pass of it; or gives the number of its close, which the pass keeps, and the ask.
 fn change_by<W: Wait, T: Turnstile>(
-    rt: &W,
-    alloc: Global,
-    shared: &Shared,
-    turnstile: &T,
-    reserve: ReserveOf<'_>,
+    call: Call<'_, W, T>,
     gate: &Gate<Vnode>,
     kept: &mut FallbackPass,
     change: Ask,
@@ -204,16 +177,7 @@ fn change_by<W: Wait, T: Turnstile>(
     if let Some(number) = kept.closed {
         return Err((number, change));
     }
-    match answer_change_open(
-        rt,
-        alloc,
-        shared,
-        turnstile,
-        reserve,
-        gate,
-        &mut kept.pass,
-        change,
-    ) {
+    match answer_change_open(call, gate, &mut kept.pass, change) {
         Ok(answered) => Ok(answered),
         Err(back) => {
             kept.closed = Some(back.0);
@@ -225,11 +189,7 @@ fn change_by<W: Wait, T: Turnstile>(
 /// Answers a get at the fallback of a partition, by the pass of it that is kept, and what that is counted as; or gives the number of the
 /// fallback's close.
 pub(crate) fn get_diverted<W: Wait, T: Turnstile, A: GetAnswer>(
-    rt: &W,
-    alloc: Global,
-    shared: &Shared,
-    turnstile: &T,
-    reserve: ReserveOf<'_>,
+    call: Call<'_, W, T>,
     fallback: &Fallback,
     kept: &mut Option<FallbackPass>,
     get: &GetAsk,
@@ -246,18 +206,7 @@ pub(crate) fn get_diverted<W: Wait, T: Turnstile, A: GetAnswer>(
 {
     renew(kept, fallback);
     match kept {
-        Some(kept) => get_by::<W, T, A>(
-            rt,
-            alloc,
-            shared,
-            turnstile,
-            reserve,
-            &fallback.gate,
-            kept,
-            get,
-            frame,
-            room,
-        ),
+        Some(kept) => get_by::<W, T, A>(call, &fallback.gate, kept, get, frame, room),
         None => unreachable!(),
     }
 }
@@ -265,11 +214,7 @@ pub(crate) fn get_diverted<W: Wait, T: Turnstile, A: GetAnswer>(
 /// Answers what may change a vnode at the fallback of a partition, by the pass of it that is kept, and what that is counted as; or gives
 /// the number of the fallback's close, and the ask.
 pub(crate) fn change_diverted<W: Wait, T: Turnstile>(
-    rt: &W,
-    alloc: Global,
-    shared: &Shared,
-    turnstile: &T,
-    reserve: ReserveOf<'_>,
+    call: Call<'_, W, T>,
     fallback: &Fallback,
     kept: &mut Option<FallbackPass>,
     change: Ask,
@@ -282,16 +227,7 @@ pub(crate) fn change_diverted<W: Wait, T: Turnstile>(
 {
     renew(kept, fallback);
     match kept {
-        Some(kept) => change_by(
-            rt,
-            alloc,
-            shared,
-            turnstile,
-            reserve,
-            &fallback.gate,
-            kept,
-            change,
-        ),
+        Some(kept) => change_by(call, &fallback.gate, kept, change),
         None => unreachable!(),
     }
 }

@@ -7,10 +7,9 @@ ghost use Rattle.vnode_core.specs.declared.ask.Ask.TheVariants.{Put};
 ghost use Rattle.gate_node.specs.Asked.{IsShownGet, Gets, Changes, ReapsUpTo, AnswersAndReaps};
 ghost use Rattle.gate_node.specs.Asked.{ComesOf, ComesUnchanged, SeesUnder, state_of};
 
+use crate::call::Call;
 use crate::get_answer::GetAnswer;
 use crate::replies::counted_reply;
-use crate::reserve::ReserveOf;
-use crate::shared::Shared;
 use crate::turnstile::Turnstile;
 use riak_msgs::{GetAsk, PutAsk, Reply, Text};
 use rw_gate::{AskOutcome, Gate, Pass, WriteRight, ask, ask_shown};
@@ -30,11 +29,7 @@ pub(crate) struct Answered<A> {
 /// Answers a get, under a right to read, behind the turnstile.
 #[inline(always)]
 fn answer_get<W: Wait, T: Turnstile, A: GetAnswer>(
-    rt: &W,
-    alloc: Global,
-    shared: &Shared,
-    turnstile: &T,
-    reserve: ReserveOf<'_>,
+    call: Call<'_, W, T>,
     gate: &Gate<Vnode>,
     pass: &mut Pass<Vnode>,
     get: &GetAsk,
@@ -48,11 +43,11 @@ fn answer_get<W: Wait, T: Turnstile, A: GetAnswer>(
     ensures shown { IsShownGet get.now pass.old pass.new (A.reply result) }
     ensures put { A.is_put result frame.new }
 {
-    let right = gate.read(rt);
-    shared.enter(turnstile);
+    let right = gate.read(call.rt);
+    call.shared.enter(call.turnstile);
     match right.look(pass) {
         Ok(vnode) => {
-            let reply = A::show(vnode, alloc, reserve, get, frame, room);
+            let reply = A::show(vnode, call.alloc, call.reserve, get, frame, room);
             right.release();
             reply
         }
@@ -74,6 +69,7 @@ fn outcome_without_memory(vnode: &Vnode, put: &PutAsk) -> AskOutcome<Answer, Ref
 }
 
 /// Refuses a put for which there is no memory, under a right, which the caller gives back.
+#[inline(never)]
 fn refuse_put(
     right: &WriteRight<'_, Vnode>,
     pass: &mut Pass<Vnode>,
@@ -92,6 +88,7 @@ fn refuse_put(
 }
 
 /// Asks once under a right whose whole history the pass has seen, as a look has just shown it. A put that has no room is refused.
+#[inline(always)]
 pub(crate) fn ask_seen(
     right: &mut WriteRight<'_, Vnode>,
     alloc: Global,
@@ -116,6 +113,7 @@ pub(crate) fn ask_seen(
 }
 
 /// Asks once under a right to write, which the caller gives back.
+#[inline(always)]
 fn ask_vnode(
     right: &mut WriteRight<'_, Vnode>,
     alloc: Global,
@@ -137,11 +135,7 @@ fn ask_vnode(
 /// Answers what may change the vnode, under a right to write, behind the turnstile; and what that is counted as.
 #[inline(always)]
 fn answer_change<W: Wait, T: Turnstile>(
-    rt: &W,
-    alloc: Global,
-    shared: &Shared,
-    turnstile: &T,
-    reserve: ReserveOf<'_>,
+    call: Call<'_, W, T>,
     gate: &Gate<Vnode>,
     pass: &mut Pass<Vnode>,
     change: Ask,
@@ -151,10 +145,10 @@ fn answer_change<W: Wait, T: Turnstile>(
     ensures more { IsPrefix pass.old.prefix pass.new.prefix }
     ensures answers { Changes change pass.old pass.new result.0 result.1 }
 {
-    let has_room = reserve.has_room_for(alloc, &change);
-    let mut right = gate.write(rt);
-    shared.enter(turnstile);
-    let outcome = ask_vnode(&mut right, alloc, pass, change, has_room);
+    let has_room = call.reserve.has_room_for(call.alloc, &change);
+    let mut right = gate.write(call.rt);
+    call.shared.enter(call.turnstile);
+    let outcome = ask_vnode(&mut right, call.alloc, pass, change, has_room);
     right.release();
     counted_reply(outcome)
 }
@@ -182,14 +176,29 @@ fn reap<W: Wait>(
     count
 }
 
+/// The same, without a call where none may be forgotten.
+#[inline(always)]
+fn reap_allowed<W: Wait>(
+    rt: &W,
+    alloc: Global,
+    gate: &Gate<Vnode>,
+    pass: &mut Pass<Vnode>,
+    budget: u32,
+) -> u32
+    requires { pass.old.gate ≡ gate.now }
+    ensures gate { pass.new.gate ≡ pass.old.gate }
+    ensures reaps { ReapsUpTo budget result pass.old pass.new }
+{
+    if budget == 0 {
+        return 0;
+    }
+    reap(rt, alloc, gate, pass, budget)
+}
+
 /// Answers a get, and then forgets the vnode's first dead keys, as many as the budget allows.
 #[inline(always)]
 pub(crate) fn get_and_reap<W: Wait, T: Turnstile, A: GetAnswer>(
-    rt: &W,
-    alloc: Global,
-    shared: &Shared,
-    turnstile: &T,
-    reserve: ReserveOf<'_>,
+    call: Call<'_, W, T>,
     gate: &Gate<Vnode>,
     pass: &mut Pass<Vnode>,
     get: &GetAsk,
@@ -199,15 +208,14 @@ pub(crate) fn get_and_reap<W: Wait, T: Turnstile, A: GetAnswer>(
     requires pass { pass.old.gate ≡ gate.now }
     requires free { A.is_free frame.old }
     ensures gate { pass.new.gate ≡ pass.old.gate }
-    ensures steps { AnswersAndReaps shared.now.budget result.reaps
+    ensures steps { AnswersAndReaps call.entry.shared.now.budget result.reaps
         (λ p q. Gets get.now p q (A.reply result.reply) result.quantity) pass.old pass.new }
     ensures put { A.is_put result.reply frame.new }
 {
-    let reply = answer_get::<W, T, A>(
-        rt, alloc, shared, turnstile, reserve, gate, pass, get, frame, room,
-    );
+    let reply = answer_get::<W, T, A>(call, gate, pass, get, frame, room);
     let quantity = Some(reply.quantity());
-    let reaps = reap(rt, alloc, gate, pass, shared.budget);
+    let shared = call.shared;
+    let reaps = reap_allowed(call.rt, call.alloc, gate, pass, shared.budget);
     Answered {
         reply,
         quantity,
@@ -216,25 +224,21 @@ pub(crate) fn get_and_reap<W: Wait, T: Turnstile, A: GetAnswer>(
 }
 
 /// Answers what may change the vnode, and then forgets its first dead keys, as many as the budget allows.
+#[inline(always)]
 pub(crate) fn change_and_reap<W: Wait, T: Turnstile>(
-    rt: &W,
-    alloc: Global,
-    shared: &Shared,
-    turnstile: &T,
-    reserve: ReserveOf<'_>,
+    call: Call<'_, W, T>,
     gate: &Gate<Vnode>,
     pass: &mut Pass<Vnode>,
     change: Ask,
 ) -> Answered<Reply>
     requires { pass.old.gate ≡ gate.now }
     ensures gate { pass.new.gate ≡ pass.old.gate }
-    ensures steps { AnswersAndReaps shared.now.budget result.reaps
+    ensures steps { AnswersAndReaps call.entry.shared.now.budget result.reaps
         (λ p q. Changes change p q result.reply result.quantity) pass.old pass.new }
 {
-    let (reply, quantity) = answer_change(
-        rt, alloc, shared, turnstile, reserve, gate, pass, change,
-    );
-    let reaps = reap(rt, alloc, gate, pass, shared.budget);
+    let (reply, quantity) = answer_change(call, gate, pass, change);
+    let shared = call.shared;
+    let reaps = reap_allowed(call.rt, call.alloc, gate, pass, shared.budget);
     Answered {
         reply,
         quantity,

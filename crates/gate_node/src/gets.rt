@@ -35,23 +35,12 @@ impl<'a, W: Wait, T: Turnstile, C: CountReplies> GateNode<'a, W, T, C> {
             (λ p q. Gets get.now p q (A.reply result)) }
         ensures put { A.is_put result frame.new }
     {
+        let call = self.call(alloc);
         let shared = self.shared;
         let gates = shared.handoff.gates();
         let gate = &gates[index];
-        let reserve = self.reserve;
         let pass = &mut self.primaries[index];
-        let answered = get_and_reap::<W, T, A>(
-            self.rt,
-            alloc,
-            shared,
-            self.turnstile,
-            reserve,
-            gate,
-            pass,
-            get,
-            frame,
-            room,
-        );
+        let answered = get_and_reap::<W, T, A>(call, gate, pass, get, frame, room);
         self.counter.count_answer(answered.quantity, answered.reaps);
         answered.reply
     }
@@ -86,24 +75,12 @@ impl<'a, W: Wait, T: Turnstile, C: CountReplies> GateNode<'a, W, T, C> {
         ensures closed { IfErr result (λ number. AtClosed index number self.old self.new) }
         ensures free { OnErr result (A.is_free frame.new) }
     {
+        let call = self.call(alloc);
         if !make_places(alloc, self.size, &mut self.fallbacks) {
             return Ok(self.get_error::<A>(Text::NoMemory, frame));
         }
-        let shared = self.shared;
-        let reserve = self.reserve;
         let kept = &mut self.fallbacks[index];
-        match get_diverted::<W, T, A>(
-            self.rt,
-            alloc,
-            shared,
-            self.turnstile,
-            reserve,
-            fallback,
-            kept,
-            get,
-            frame,
-            room,
-        ) {
+        match get_diverted::<W, T, A>(call, fallback, kept, get, frame, room) {
             Ok((reply, quantity)) => {
                 self.counter.count_answer(quantity, 0);
                 Ok(reply)
@@ -136,6 +113,7 @@ impl<'a, W: Wait, T: Turnstile, C: CountReplies> GateNode<'a, W, T, C> {
     }
 
     /// Answers a get at a partition with a fallback: at that, or at the primary where it is closed.
+    #[inline(never)]
     fn get_at_diverted<A: GetAnswer>(
         &mut self,
         alloc: Global,

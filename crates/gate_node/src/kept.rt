@@ -28,6 +28,7 @@ impl<'a, W: Wait, T: Turnstile, C: CountReplies> GateNode<'a, W, T, C> {
     }
 
     /// The index of the partition that a key lies in, as its thread remembers it, or by the key's digest.
+    #[inline(always)]
     pub(crate) fn index(&self, key: &Key) -> usize
         ensures index { result ≡ partition_of self.now.shared.index_bits key.now }
         ensures below { result < 2 ^ self.now.shared.index_bits }

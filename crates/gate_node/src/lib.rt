@@ -104,6 +104,7 @@
 //! - Of what use a worker's `Reserve` is: `scripts/maintain/try-full` alone shows it.
 #![tactic(auto)]
 
+mod call;
 mod diverted;
 mod fault;
 mod gated_vnode;

@@ -10,6 +10,7 @@ ghost use Rattle.gate_node.specs.GateStep.{AnswersError, AsksFallback, AtDiverte
 ghost use Rattle.gate_node.specs.GateStep.{AnswersAtPartition, events_seen};
 ghost use Rattle.gate_node.specs.Passes.{ArePassesOf};
 
+use crate::call::Call;
 use crate::diverted::change_diverted;
 use crate::gated_vnode::{catch_up, change_and_reap};
 use crate::partition_cache::PartitionCache;
@@ -198,26 +199,32 @@ impl<'a, W: Wait, T: Turnstile, C: CountReplies> GateNode<'a, W, T, C> {
         (counter, passes)
     }
 
+    /// What the node makes a call by to which this allocator is lent.
+    #[inline(always)]
+    pub(crate) fn call(&self, alloc: Global) -> Call<'a, W, T>
+        ensures alloc { result.alloc ≡ alloc }
+        ensures shared { result.shared.now ≡ self.now.shared }
+    {
+        Call {
+            rt: self.rt,
+            alloc,
+            shared: self.shared,
+            turnstile: self.turnstile,
+            reserve: self.reserve,
+        }
+    }
+
     /// Answers what may change a vnode at the primary of a partition.
     fn change_at_primary(&mut self, alloc: Global, index: usize, change: Ask) -> Reply
         requires { index < 2 ^ self.old.shared.index_bits }
         ensures { AtIndex index self.old self.new (λ p q. Changes change p q result) }
     {
+        let call = self.call(alloc);
         let shared = self.shared;
         let gates = shared.handoff.gates();
         let gate = &gates[index];
-        let reserve = self.reserve;
         let pass = &mut self.primaries[index];
-        let answered = change_and_reap(
-            self.rt,
-            alloc,
-            shared,
-            self.turnstile,
-            reserve,
-            gate,
-            pass,
-            change,
-        );
+        let answered = change_and_reap(call, gate, pass, change);
         self.counter.count_answer(answered.quantity, answered.reaps);
         answered.reply
     }
@@ -246,22 +253,12 @@ impl<'a, W: Wait, T: Turnstile, C: CountReplies> GateNode<'a, W, T, C> {
         ensures closed { IfErr result (λ back. AtClosed index back.0 self.old self.new) }
         ensures same { IfErr result (λ back. back.1 ≡ change) }
     {
+        let call = self.call(alloc);
         if !make_places(alloc, self.size, &mut self.fallbacks) {
             return Ok(self.answer_error(Text::NoMemory));
         }
-        let shared = self.shared;
-        let reserve = self.reserve;
         let kept = &mut self.fallbacks[index];
-        match change_diverted(
-            self.rt,
-            alloc,
-            shared,
-            self.turnstile,
-            reserve,
-            fallback,
-            kept,
-            change,
-        ) {
+        match change_diverted(call, fallback, kept, change) {
             Ok((reply, quantity)) => {
                 self.counter.count_answer(quantity, 0);
                 Ok(reply)
@@ -297,6 +294,7 @@ impl<'a, W: Wait, T: Turnstile, C: CountReplies> GateNode<'a, W, T, C> {
     }
 
     /// Answers what may change a vnode at a partition with a fallback: at that, or at the primary where it is closed.
+    #[inline(never)]
     fn change_at_diverted(
         &mut self,
         alloc: Global,
@@ -317,6 +315,7 @@ impl<'a, W: Wait, T: Turnstile, C: CountReplies> GateNode<'a, W, T, C> {
     }
 
     /// Answers what may change a vnode, at the primary of a partition that has no fallback.
+    #[inline(always)]
     pub(crate) fn change(&mut self, alloc: Global, index: usize, change: Ask) -> Reply
         requires { index < 2 ^ self.old.shared.index_bits }
         ensures { AnswersAtPartition index self.old result self.new

@@ -3,7 +3,6 @@ ghost use Rattle.std.specs.Prelude.{◌≡◌};
 ghost use Rattle.gate_node.specs.Asked.{answer_quantity, get_quantity, outcome_quantity};
 ghost use Rattle.gate_node.specs.Asked.{outcome_reply, told_quantity};
 
-use node_session::answer_reply;
 use riak_msgs::{Reply, Text};
 use rw_gate::AskOutcome;
 use stats_book::Quantity;
@@ -14,7 +13,7 @@ fn outcome_reply(outcome: AskOutcome<Answer, Refusal>) -> Reply
     ensures { result ≡ outcome_reply outcome }
 {
     match outcome {
-        AskOutcome::Made(answer) | AskOutcome::Told(answer) => answer_reply(answer),
+        AskOutcome::Made(answer) | AskOutcome::Told(answer) => Reply::from(answer),
         AskOutcome::Refused(refusal) => Reply::Error(Text::from(refusal)),
         AskOutcome::Moved => Reply::Error(Text::Moved),
         AskOutcome::Full => Reply::Error(Text::HistoryFull),

@@ -6,7 +6,7 @@ use Rattle.job_pool.specs.declared.fault.RunFault.TheVariants.{NoMemory, NoThrea
 use Rattle.job_pool.specs.Giving.{Gave, GaveAll, GaveFailed, AllServedOnce, Leaves, ServedThenFailed, StoppedAfter}
 use Rattle.job_pool.specs.Ends.{AreInOrder, told_by}
 use Rattle.job_pool.specs.Telling.{ToldOnce, TellsGiven}
-use Rattle.job_pool.specs.declared.told.Told.{Told}
+use Rattle.job_pool.specs.declared.workers_left.WorkersLeft.{WorkersLeft}
 use Rattle.job_pool.specs.declared.worker.NumberedEnd.{NumberedEnd}
 use Rattle.job_pool.proofs.Joining.{all_ordered}
 use Rattle.job_pool.specs.Workers.{IsOfRun}
@@ -29,7 +29,7 @@ module _ {G J F : Type 0} (Gives : G → Result (Option J) F → G → Type 0) w
   refused first jobs last (Err NoThread) all h = absurd h
   refused first jobs last (Err JobsFailed) all h = (jobs, inl (inr h))
 
-  module _ {W E K : Type 0} (Serves : W → J → W → E → Type 0) (told : K → List (NumberedEnd E)) (first : G) (firsts : List W) (done : Told W K) (last : G) where
+  module _ {W E K : Type 0} (Serves : W → J → W → E → Type 0) (told : K → List (NumberedEnd E)) (first : G) (firsts : List W) (done : WorkersLeft W K) (last : G) where
     abbrev Telling : Result (Unit {0}) RunFault → Type 0
     Telling stopped = TellsGiven Serves told Gives first firsts done stopped last
 
@@ -41,7 +41,7 @@ module _ {G J F : Type 0} (Gives : G → Result (Option J) F → G → Type 0) w
 
     -- also behind a fault of the source
     pub told_failing : (fault : RunFault) → fault ≡ JobsFailed → Telling (Err fault)
-        → (jobs : List J) × GaveFailed Gives first jobs last × (left : Told W K) × ToldOnce Serves told jobs firsts left.workers.items left.sinks.items left.given left.refused
+        → (jobs : List J) × GaveFailed Gives first jobs last × (left : WorkersLeft W K) × ToldOnce Serves told jobs firsts left.workers.items left.sinks.items left.given left.refused
     told_failing fault is h = (h.0, subst (λ f. StoppedAfter Gives f first h.0 last) is h.1, done, h.2)
 
     module _ (ends : List E) (order : AreInOrder done.given (told_by told done.sinks.items) ends) where

@@ -6,7 +6,7 @@ use Rattle.job_pool.specs.declared.fault.RunFault.TheVariants.{NoMemory, NoThrea
 use Rattle.job_pool.specs.declared.lent.Lent.{Lent}
 use Rattle.job_pool.specs.Giving.{Gave, GaveAll, GaveFailed, GivesOnly, Leaves}
 use Rattle.job_pool.specs.Telling.{TellsGiven}
-use Rattle.job_pool.specs.declared.told.Told.{Told}
+use Rattle.job_pool.specs.declared.workers_left.WorkersLeft.{WorkersLeft}
 use Rattle.job_pool.specs.declared.worker.NumberedEnd.{NumberedEnd}
 
 module _ {G J F : Type 0} (Gives : G → Result (Option J) F → G → Type 0) where
@@ -41,7 +41,7 @@ module _ {G J F : Type 0} (Gives : G → Result (Option J) F → G → Type 0) w
   leaves_back NoMemory first last back tie (jobs, inr h) = (jobs, inr (all_back first jobs last back tie h))
 
   -- and what was told
-  pub tells_back : {W E K : Type 0} (Serves : W → J → W → E → Type 0) (told : K → List (NumberedEnd E)) (firsts : List W) (done : Told W K) (stopped : Result (Unit {0}) RunFault) (first last : Lent G) (back : G)
+  pub tells_back : {W E K : Type 0} (Serves : W → J → W → E → Type 0) (told : K → List (NumberedEnd E)) (firsts : List W) (done : WorkersLeft W K) (stopped : Result (Unit {0}) RunFault) (first last : Lent G) (back : G)
       → (last.jobs.ghost_name ≡ first.jobs.ghost_name → last.jobs.now ≡ back) → TellsGiven Serves told LentGives first firsts done stopped last → TellsGiven Serves told Gives first.jobs.now firsts done stopped back
   tells_back Serves told firsts done (Ok u) first last back tie h = (h.0, all_back first h.0 last back tie h.1, h.2)
   tells_back Serves told firsts done (Err NoThread) first last back tie h = absurd h.1

@@ -7,12 +7,12 @@ use crate::fault::RunFault;
 use crate::jobs::Jobs;
 use crate::order::in_order;
 use crate::pool::{Joined, run_lent};
-use crate::readiness::{Bell, Post, Readiness};
+use crate::readiness::{Post, Readiness, Wakeup};
 use crate::rounds::new_rounds;
 use crate::service::Service;
 use crate::sleepers::Wakes;
-use crate::stations::stations_of;
-use crate::told::Told;
+use crate::worker_setups::worker_setups_of;
+use crate::workers_left::WorkersLeft;
 use std::alloc::Global;
 use std::sync::Wait;
 use std::thread::Threads;
@@ -85,7 +85,7 @@ where
     G: Jobs<Job = S::Job>,
     T: Threads + Wait + Sync,
     D: Readiness<S> + Drop + Send,
-    B: Bell + Drop,
+    B: Wakeup + Drop,
     requires some { 0 < length workers.items }
     requires posts { length posts.items ≡ length workers.items }
     requires jobs { GivesOnly G.gives (S.accepts service.now) jobs.old }
@@ -98,14 +98,14 @@ where
     ensures failed { IfErr result (λ fault. fault ≡ JobsFailed
         → ServedThenFailed G.gives (S.serves service.now) jobs.old workers.items jobs.new) }
 {
-    let Ok(stations) = stations_of::<S, D, B>(alloc, workers, posts) else {
+    let Ok(worker_setups) = worker_setups_of::<S, D, B>(alloc, workers, posts) else {
         return Err(RunFault::NoMemory);
     };
-    let Joined { told, stopped } = match run_lent(rt, alloc, service, jobs, stations, wakes) {
+    let Joined { told, stopped } = match run_lent(rt, alloc, service, jobs, worker_setups, wakes) {
         Ok(joined) => joined,
         Err(fault) => return Err(fault),
     };
-    let Told {
+    let WorkersLeft {
         workers,
         sinks,
         given,

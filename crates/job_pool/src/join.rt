@@ -10,8 +10,8 @@ ghost use Rattle.job_pool.specs.Workers.{IsOn, state_before};
 use crate::queue::{Accepts, Fork, JobQueue, QueuePass, Reconcile};
 use crate::service::Service;
 use crate::sink::Sink;
-use crate::told::Told;
 use crate::worker::{Left, WorkerOutput, WorkerPromise};
+use crate::workers_left::WorkersLeft;
 use std::snapshot::Snapshot;
 use std::thread::{PromisedHandle, Threads};
 
@@ -54,7 +54,7 @@ pub(crate) fn join_all<H, S, K, T>(
     queue: &JobQueue<H, S::Job>,
     pass: &mut QueuePass<S::Job>,
     children: Vec<Child<S, K>>,
-    told: &mut Told<S::Worker, K>,
+    told: &mut WorkersLeft<S::Worker, K>,
 )
 where
     H: Accepts<S::Job>,

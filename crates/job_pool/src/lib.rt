@@ -19,7 +19,7 @@
 //!
 //! What it costs: a job goes through one queue of [`MAX_WAITING`] places, is moved and not copied,
 //! and takes no lock. In `run` all workers are woken after each push, and a worker has one job open
-//! ([`Rounds`]); in `run_at` a job is meant for a worker whose [`Bell`] tells the least load, and
+//! ([`Rounds`]); in `run_at` a job is meant for a worker whose [`Wakeup`] tells the least load, and
 //! that one alone is woken; [`run_with`] is `run` over any readiness. Where the queue is full the
 //! leading thread sleeps, and a worker that took a task wakes it. A run takes memory for the queue,
 //! a thread for each worker and a parker for the leading thread; `run` also for a parker for each
@@ -28,7 +28,7 @@
 //! How it is built: the queue is under a rule (`specs/Queue`: `AllGiven`): what lies in it, and
 //! what each worker took, is a job that was given, under its number, and each job that was given
 //! waits in it or was taken once, since whatever the numbers weigh, the sums are the same. A
-//! worker's desk has its open jobs in slots (`specs/Desks`): each job that it took is open, or its
+//! worker has its open jobs in slots (`specs/OpenJobs`): each job that it took is open, or its
 //! end was told, or it was refused, once. When it stops none is open. The leading thread joins it,
 //! learns by the rule that what it took are jobs that were given, and compares the counts: so none
 //! is lost. `run` is such a run whose sinks keep all ends; it lays each into the place of its
@@ -65,38 +65,38 @@
 #![tactic(auto)]
 
 mod collect;
-mod desk;
 mod fault;
 mod jobs;
 mod join;
 mod lent;
+mod open_job;
+mod open_jobs;
 mod order;
 mod pool;
 mod queue;
 mod readiness;
 mod rooms;
 mod rounds;
-mod seat;
 mod service;
 mod sink;
 mod sleepers;
 mod start;
-mod stations;
 mod stream_readiness;
 mod submit;
-mod told;
 mod worker;
+mod worker_setups;
+mod workers_left;
 
 pub use collect::{Finished, run, run_with};
-pub use desk::MAX_STEPS_PER_TURN;
 pub use fault::RunFault;
 pub use jobs::{JobFault, Jobs};
+pub use open_jobs::MAX_STEPS_PER_TURN;
 pub use pool::{MAX_WAITING, run_at};
-pub use readiness::{Bell, Post, Readiness, Station, Turn};
+pub use readiness::{Post, Readiness, Turn, Wakeup, WorkerSetup};
 pub use rounds::{Rounds, Wake};
-pub use service::{Moved, Service};
+pub use service::{Service, StepOutcome};
 pub use sink::Sink;
 pub use sleepers::Wakes;
 pub use stream_readiness::StreamReadiness;
-pub use told::Told;
 pub use worker::NumberedEnd;
+pub use workers_left::WorkersLeft;

@@ -14,14 +14,14 @@ use crate::jobs::Jobs;
 use crate::join::{Child, join_all, let_go};
 use crate::lent::Lent;
 use crate::queue::{Accepts, JobQueue, QueuePass};
-use crate::readiness::{Bell, Readiness, Station};
+use crate::readiness::{Readiness, Wakeup, WorkerSetup};
 use crate::rooms::Rooms;
 use crate::service::Service;
 use crate::sink::Sink;
 use crate::sleepers::{Sleepers, Wakes};
 use crate::start::start_all;
 use crate::submit::{submit_all, submit_stops};
-use crate::told::Told;
+use crate::workers_left::WorkersLeft;
 use std::alloc::Global;
 use std::marker::Brand;
 use std::snapshot::Snapshot;
@@ -29,13 +29,14 @@ use std::sync::Wait;
 use std::thread;
 use std::thread::Threads;
 
-/// How many jobs wait in the queue at most, unless there are more workers: then as many as these.
-pub const MAX_WAITING: usize = 1024;
+/// How many jobs wait in the queue at most, unless there are more workers: then as many as these. They are few, since
+/// their places are one piece of memory, each of a whole job, and a run is to start where no long piece is free.
+pub const MAX_WAITING: usize = 64;
 
 /// What the workers left, and how the source stopped.
 #[derive(Drop)]
 pub(crate) struct Joined<W, K> {
-    pub(crate) told: Told<W, K>,
+    pub(crate) told: WorkersLeft<W, K>,
     pub(crate) stopped: Result<(), RunFault>,
 }
 
@@ -49,14 +50,14 @@ fn dispatch<H, S, G, K, B, T>(
     sleepers: &Sleepers<B>,
     jobs: &mut G,
     children: Vec<Child<S, K>>,
-    told: Told<S::Worker, K>,
+    told: WorkersLeft<S::Worker, K>,
 ) -> Result<Joined<S::Worker, K>, RunFault>
 where
     H: Accepts<S::Job>,
     S: Service,
     G: Jobs<Job = S::Job>,
     K: Sink<S> + Drop + Send,
-    B: Bell + Drop,
+    B: Wakeup + Drop,
     T: Threads + Wait,
     requires queue { IsPassOf queue.now pass.old × (view pass.old ≡ leader) }
     requires accepts { GivesOnly G.gives H.accepts jobs.old }
@@ -91,7 +92,7 @@ where
     H: Accepts<S::Job>,
     S: Service,
     K: Sink<S> + Drop + Send,
-    B: Bell + Drop,
+    B: Wakeup + Drop,
     T: Threads + Wait,
     requires queue { IsPassOf queue.now pass.old × (view pass.old ≡ leader) }
 {
@@ -108,7 +109,7 @@ fn run_on<'a, H, S, G, K, D, B, T>(
     pass: QueuePass<S::Job>,
     rooms: Rooms<S::Worker, K, B>,
     jobs: G,
-    stations: Vec<Station<S::Worker, K, D, B>>,
+    worker_setups: Vec<WorkerSetup<S::Worker, K, D, B>>,
 ) -> (G, Result<Joined<S::Worker, K>, RunFault>)
 where
     H: Accepts<S::Job> + Send + Sync,
@@ -116,16 +117,16 @@ where
     G: Jobs<Job = S::Job> + Drop,
     K: Sink<S> + Drop + Send + 'a,
     D: Readiness<S> + Drop + Send + 'a,
-    B: Bell + Drop,
+    B: Wakeup + Drop,
     T: Threads + Wait + Sync,
     requires queue { IsPassOf queue.now pass × (view pass ≡ leader) }
     requires accepts { (job : S.Job) → H.accepts job → S.accepts service.now job }
     requires jobs { GivesOnly G.gives H.accepts jobs }
-    requires new { Every (IsNew K.told K.has_room) stations.items }
-    requires told { IsEmpty rooms.told × HasPlaces rooms.told (length stations.items) }
+    requires new { Every (IsNew K.told K.has_room) worker_setups.items }
+    requires told { IsEmpty rooms.told × HasPlaces rooms.told (length worker_setups.items) }
     ensures told { IfOk result.1 (λ joined.
         TellsGiven (S.serves service.now) K.told G.gives jobs
-        (map worker_of stations.items) joined.told joined.stopped result.0) }
+        (map worker_of worker_setups.items) joined.told joined.stopped result.0) }
     ensures fault { IfErr result.1 (λ fault. Leaves G.gives fault jobs result.0) }
     ensures own { IfErr result.1 IsOfRun }
 {
@@ -136,11 +137,11 @@ where
             requires queue { IsPassOf queue.now pass × (view pass ≡ leader) }
             requires accepts { (job : S.Job) → H.accepts job → S.accepts service.now job }
             requires jobs { GivesOnly G.gives H.accepts jobs }
-            requires new { Every (IsNew K.told K.has_room) stations.items }
-            requires told { IsEmpty rooms.told × HasPlaces rooms.told (length stations.items) }
+            requires new { Every (IsNew K.told K.has_room) worker_setups.items }
+            requires told { IsEmpty rooms.told × HasPlaces rooms.told (length worker_setups.items) }
             ensures told { IfOk result.1 (λ joined.
                 TellsGiven (S.serves service.entry.now) K.told G.gives jobs
-                (map worker_of stations.items) joined.told joined.stopped result.0) }
+                (map worker_of worker_setups.items) joined.told joined.stopped result.0) }
             ensures fault { IfErr result.1 (λ fault. Leaves G.gives fault jobs result.0) }
             ensures own { IfErr result.1 IsOfRun }
         {
@@ -158,7 +159,7 @@ where
                 &mut mine,
                 &mut sleepers,
                 &mut children,
-                stations,
+                worker_setups,
             );
             if let Err(fault) = started {
                 give_up(rt, queue, &mut mine, &sleepers, children);
@@ -186,7 +187,7 @@ fn run_owned<H, S, G, K, D, B, T>(
     alloc: Global,
     service: &S,
     jobs: G,
-    stations: Vec<Station<S::Worker, K, D, B>>,
+    worker_setups: Vec<WorkerSetup<S::Worker, K, D, B>>,
     wakes: Wakes,
 ) -> (G, Result<Joined<S::Worker, K>, RunFault>)
 where
@@ -195,18 +196,18 @@ where
     G: Jobs<Job = S::Job> + Drop,
     K: Sink<S> + Drop + Send,
     D: Readiness<S> + Drop + Send,
-    B: Bell + Drop,
+    B: Wakeup + Drop,
     T: Threads + Wait + Sync,
     requires accepts { (job : S.Job) → H.accepts job → S.accepts service.now job }
     requires jobs { GivesOnly G.gives H.accepts jobs }
-    requires new { Every (IsNew K.told K.has_room) stations.items }
+    requires new { Every (IsNew K.told K.has_room) worker_setups.items }
     ensures told { IfOk result.1 (λ joined.
         TellsGiven (S.serves service.now) K.told G.gives jobs
-        (map worker_of stations.items) joined.told joined.stopped result.0) }
+        (map worker_of worker_setups.items) joined.told joined.stopped result.0) }
     ensures fault { IfErr result.1 (λ fault. Leaves G.gives fault jobs result.0) }
     ensures own { IfErr result.1 IsOfRun }
 {
-    let count = stations.len();
+    let count = worker_setups.len();
     let Ok(rooms) = Rooms::new(alloc, count, wakes) else {
         return (jobs, Err(RunFault::NoMemory));
     };
@@ -214,7 +215,7 @@ where
     let Ok((queue, pass)) = JobQueue::<H, S::Job>::ruled(alloc, most) else {
         return (jobs, Err(RunFault::NoMemory));
     };
-    run_on(rt, alloc, service, &queue, pass, rooms, jobs, stations)
+    run_on(rt, alloc, service, &queue, pass, rooms, jobs, worker_setups)
 }
 
 /// A run over a source that is lent.
@@ -223,7 +224,7 @@ pub(crate) fn run_lent<S, G, K, D, B, T>(
     alloc: Global,
     service: &S,
     jobs: &mut G,
-    stations: Vec<Station<S::Worker, K, D, B>>,
+    worker_setups: Vec<WorkerSetup<S::Worker, K, D, B>>,
     wakes: Wakes,
 ) -> Result<Joined<S::Worker, K>, RunFault>
 where
@@ -231,32 +232,37 @@ where
     G: Jobs<Job = S::Job>,
     K: Sink<S> + Drop + Send,
     D: Readiness<S> + Drop + Send,
-    B: Bell + Drop,
+    B: Wakeup + Drop,
     T: Threads + Wait + Sync,
     requires jobs { GivesOnly G.gives (S.accepts service.now) jobs.old }
-    requires new { Every (IsNew K.told K.has_room) stations.items }
+    requires new { Every (IsNew K.told K.has_room) worker_setups.items }
     ensures told { IfOk result (λ joined.
         TellsGiven (S.serves service.now) K.told G.gives jobs.old
-        (map worker_of stations.items) joined.told joined.stopped jobs.new) }
+        (map worker_of worker_setups.items) joined.told joined.stopped jobs.new) }
     ensures fault { IfErr result (λ fault. Leaves G.gives fault jobs.old jobs.new) }
     ensures own { IfErr result IsOfRun }
 {
     let lent = Lent { jobs };
     let (Lent { jobs }, joined) = run_owned::<Brand, S, Lent<G>, K, D, B, T>(
-        rt, alloc, service, lent, stations, wakes,
+        rt,
+        alloc,
+        service,
+        lent,
+        worker_setups,
+        wakes,
     );
     joined
 }
 
-/// Serves all jobs of a source, each once, by a worker at each of these stations, and keeps no end: each is told the sink of the worker that served
+/// Serves all jobs of a source, each once, by a worker with each of these setups, and keeps no end: each is told the sink of the worker that served
 /// its job, when it comes.
 ///
 /// What each sink was told are the ends of the turns of its worker, under their jobs' numbers, in their order; these turns lead from the state that
 /// was handed in to the one that comes back. A job whose end is told no sink was refused, for want of memory, by the worker that took it, which told
-/// its sink so. Each job is one of these, once, and `given` and `refused` count them. There has to be a station; its sink was told nothing before,
+/// its sink so. Each job is one of these, once, and `given` and `refused` count them. There has to be a setup; its sink was told nothing before,
 /// and has room for no end at least; and each job that the source may give is one that the service takes.
 ///
-/// A worker takes the jobs for which its bell was rung; each is meant for a worker whose bell tells the least load. It has many
+/// A worker takes the jobs for which its wakeup was rung; each is meant for a worker whose wakeup tells the least load. It has many
 /// jobs open, as its readiness lets it.
 ///
 /// Where the run ends by a fault, the workers that were started have been joined, and their states and sinks are let go:
@@ -271,27 +277,27 @@ pub fn run_at<S, G, T, K, D, B>(
     alloc: Global,
     service: &S,
     jobs: &mut G,
-    stations: Vec<Station<S::Worker, K, D, B>>,
-) -> Result<Told<S::Worker, K>, RunFault>
+    worker_setups: Vec<WorkerSetup<S::Worker, K, D, B>>,
+) -> Result<WorkersLeft<S::Worker, K>, RunFault>
 where
     S: Service,
     G: Jobs<Job = S::Job>,
     T: Threads + Wait + Sync,
     K: Sink<S> + Drop + Send,
     D: Readiness<S> + Drop + Send,
-    B: Bell + Drop,
-    requires some { 0 < length stations.items }
+    B: Wakeup + Drop,
+    requires some { 0 < length worker_setups.items }
     requires jobs { GivesOnly G.gives (S.accepts service.now) jobs.old }
-    requires new { Every (IsNew K.told K.has_room) stations.items }
+    requires new { Every (IsNew K.told K.has_room) worker_setups.items }
     ensures told { IfOk result (λ done.
-        TellsEachOnce G.gives (S.serves service.now) K.told jobs.old stations.items done jobs.new) }
+        TellsEachOnce G.gives (S.serves service.now) K.told jobs.old worker_setups.items done jobs.new) }
     ensures fault { IfErr result (λ fault. Leaves G.gives fault jobs.old jobs.new) }
 
     // Where the source failed, each job that it gave was told or refused once.
     ensures failed { IfErr result (λ fault. fault ≡ JobsFailed
-        → ToldThenFailed G.gives (S.serves service.now) K.told jobs.old stations.items jobs.new) }
+        → ToldThenFailed G.gives (S.serves service.now) K.told jobs.old worker_setups.items jobs.new) }
 {
-    match run_lent(rt, alloc, service, jobs, stations, Wakes::LeastLoad) {
+    match run_lent(rt, alloc, service, jobs, worker_setups, Wakes::LeastLoad) {
         Ok(joined) => {
             let Joined { told, stopped } = joined;
             match stopped {

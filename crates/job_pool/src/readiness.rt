@@ -1,5 +1,5 @@
 //! What a worker waits with, and what wakes it.
-use crate::service::{Moved, Service};
+use crate::service::{Service, StepOutcome};
 use std::sync::Wait;
 
 /// The turn of a job.
@@ -28,15 +28,15 @@ pub trait Readiness<S: Service> {
     fn ends_turn(&mut self, slot: usize, before: u32) -> bool;
 
     /// What came of the turn of a slot. Behind `Going` the slot is to have a further turn, and behind `Over` it is free.
-    fn after(&mut self, slot: usize, moved: Moved);
+    fn after(&mut self, slot: usize, moved: StepOutcome);
 
-    /// Waits until a slot is ready, the bell is rung, or it is time to look. `is_idle` where no job is open. It returns at once where a turn is due,
-    /// or where the bell was rung since it last returned. A worker that has its stop mark and no job open doesn't wait.
+    /// Waits until a slot is ready, it is woken, or it is time to look. `is_idle` where no job is open. It returns at once where a turn is due,
+    /// or where it was woken since it last returned. A worker that has its stop mark and no job open doesn't wait.
     fn wait<T: Wait>(&mut self, rt: &T, is_idle: bool);
 }
 
 /// What the leading thread wakes a worker with. It is the leader's side of the worker's [`Readiness`]; both are made together.
-pub trait Bell {
+pub trait Wakeup {
     /// How much the worker has to do: one for each job that it has open or is to take, and more for those that keep it busy.
     fn load(&self) -> usize;
 
@@ -49,16 +49,16 @@ pub trait Bell {
 
 /// A worker's state, what it is told the ends by, what it waits with, and what wakes it.
 #[derive(Drop)]
-pub struct Station<W, K, D, B> {
+pub struct WorkerSetup<W, K, D, B> {
     pub worker: W,
     pub sink: K,
     pub readiness: D,
-    pub bell: B,
+    pub wakeup: B,
 }
 
-/// What a worker waits with, and what wakes it: its station without the rest.
+/// What a worker waits with, and what wakes it: its setup without the rest.
 #[derive(Drop)]
 pub struct Post<D, B> {
     pub readiness: D,
-    pub bell: B,
+    pub wakeup: B,
 }

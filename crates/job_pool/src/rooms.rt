@@ -2,19 +2,19 @@
 ghost use Rattle.std.specs.Prelude.{IfOk};
 ghost use Rattle.job_pool.specs.Telling.{HasPlaces, IsEmpty};
 
-use crate::readiness::Bell;
+use crate::readiness::Wakeup;
 use crate::sleepers::{Sleepers, Wakes};
-use crate::told::Told;
+use crate::workers_left::WorkersLeft;
 use std::alloc::{AllocError, Global};
 
 /// Where the leading thread sleeps, and places for what the workers leave.
 #[derive(Drop)]
 pub(crate) struct Rooms<W, K, B> {
     pub(crate) sleepers: Sleepers<B>,
-    pub(crate) told: Told<W, K>,
+    pub(crate) told: WorkersLeft<W, K>,
 }
 
-impl<W: Drop, K: Drop, B: Bell + Drop> Rooms<W, K, B> {
+impl<W: Drop, K: Drop, B: Wakeup + Drop> Rooms<W, K, B> {
     /// For so many workers.
     pub(crate) fn new(
         alloc: Global,
@@ -25,7 +25,7 @@ impl<W: Drop, K: Drop, B: Bell + Drop> Rooms<W, K, B> {
     {
         Ok(Rooms {
             sleepers: Sleepers::new(alloc, wakes)?,
-            told: Told::with_places(alloc, count)?,
+            told: WorkersLeft::with_places(alloc, count)?,
         })
     }
 }

@@ -1,8 +1,8 @@
 //! What a worker waits with that has one job open at a time.
 ghost use Rattle.std.specs.Prelude.{◌≡◌, length, IfOk};
 
-use crate::readiness::{Bell, Post, Readiness, Turn};
-use crate::service::{Moved, Service};
+use crate::readiness::{Post, Readiness, Turn, Wakeup};
+use crate::service::{Service, StepOutcome};
 use crossbeam_utils::sync::{Parker, Unparker};
 use std::alloc::{AllocError, Global};
 use std::sync::Wait;
@@ -67,8 +67,8 @@ pub(crate) fn new_rounds(alloc: Global, count: usize) -> Result<Vec<Post<Rounds,
 {
     let mut posts = Vec::new(alloc);
     for _ in 0..count {
-        let (readiness, bell) = Rounds::new(alloc)?;
-        posts.push(Post { readiness, bell })?;
+        let (readiness, wakeup) = Rounds::new(alloc)?;
+        posts.push(Post { readiness, wakeup })?;
     }
     Ok(posts)
 }
@@ -90,7 +90,7 @@ impl<S: Service> Readiness<S> for Rounds {
         false
     }
 
-    fn after(&mut self, _slot: usize, _moved: Moved) {}
+    fn after(&mut self, _slot: usize, _moved: StepOutcome) {}
 
     fn wait<T: Wait>(&mut self, rt: &T, is_idle: bool) {
         if is_idle {
@@ -99,7 +99,7 @@ impl<S: Service> Readiness<S> for Rounds {
     }
 }
 
-impl Bell for Wake {
+impl Wakeup for Wake {
     fn load(&self) -> usize {
         0
     }

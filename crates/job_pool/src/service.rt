@@ -3,7 +3,7 @@ use std::alloc::Global;
 
 /// What came of a step.
 #[derive(Clone, Copy, Drop, PartialEq, Eq)]
-pub enum Moved {
+pub enum StepOutcome {
     /// The job can go on.
     Going,
     /// The job would have to wait, and nothing was done.
@@ -30,7 +30,7 @@ pub trait Service: Sync {
     type Open: Drop + Send;
 
     ghost use Rattle.std.specs.Prelude.{◌≡◌, IfOk, IfErr};
-    ghost use Rattle.job_pool.specs.declared.service.Moved.TheVariants.{Over};
+    ghost use Rattle.job_pool.specs.declared.service.StepOutcome.TheVariants.{Over};
 
     // The service takes this job.
     ghost accepts: { Self → Self.Job → Type 0 };
@@ -66,7 +66,7 @@ pub trait Service: Sync {
         worker: &mut Self::Worker,
         opened: &mut Self::Open,
         may_wait: bool,
-    ) -> Moved
+    ) -> StepOutcome
         ensures worker { worker.new ≡ worker.old }
         ensures stands { (job : Self.Job)
             → stands self.now job opened.old → stands self.now job opened.new }

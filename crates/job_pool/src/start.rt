@@ -9,7 +9,7 @@ ghost use Rattle.job_pool.specs.Workers.{IsNew, IsOn, IsOfRun, state_before, wor
 use crate::fault::RunFault;
 use crate::join::Child;
 use crate::queue::{Accepts, Fork, JobQueue, QueuePass};
-use crate::readiness::{Bell, Readiness, Station};
+use crate::readiness::{Readiness, Wakeup, WorkerSetup};
 use crate::service::Service;
 use crate::sink::Sink;
 use crate::sleepers::Sleepers;
@@ -19,7 +19,7 @@ use std::snapshot::Snapshot;
 use std::sync::Wait;
 use std::thread::{Scope, Threads};
 
-/// Starts a worker at this station.
+/// Starts a worker with this setup.
 fn start_one<'s, X, H, S, K, D, B, T>(
     scope: &'s Scope<'s, X>,
     rt: &'s T,
@@ -28,31 +28,31 @@ fn start_one<'s, X, H, S, K, D, B, T>(
     queue: &'s JobQueue<H, S::Job>,
     pass: &mut QueuePass<S::Job>,
     sleepers: &mut Sleepers<B>,
-    station: Station<S::Worker, K, D, B>,
+    worker_setup: WorkerSetup<S::Worker, K, D, B>,
 ) -> Result<Child<S, K>, RunFault>
 where
     H: Accepts<S::Job> + Send + Sync,
     S: Service,
     K: Sink<S> + Drop + Send + 's,
     D: Readiness<S> + Drop + Send + 's,
-    B: Bell + Drop,
+    B: Wakeup + Drop,
     T: Threads + Wait + Sync,
     requires queue { IsPassOf queue.now pass.old × (view pass.old ≡ leader) }
     requires accepts { (job : S.Job) → H.accepts job → S.accepts service.now job }
-    requires new { IsNew K.told K.has_room station }
+    requires new { IsNew K.told K.has_room worker_setup }
     ensures queue { IsPassOf queue.now pass.new × (view pass.new ≡ leader) }
     ensures child { IfOk result (λ child.
         IsOn queue.now.table.shared.table_id service.now child
-        × (state_before child ≡ station.worker)) }
+        × (state_before child ≡ worker_setup.worker)) }
     ensures fault { IfErr result IsOfRun }
 {
-    let Station {
+    let WorkerSetup {
         worker,
         sink,
         readiness,
-        bell,
-    } = station;
-    let Ok(to_leader) = sleepers.add(bell) else {
+        wakeup,
+    } = worker_setup;
+    let Ok(to_leader) = sleepers.add(wakeup) else {
         return Err(RunFault::NoMemory);
     };
     let theirs = queue.another::<Fork>(pass);
@@ -83,7 +83,7 @@ where
     Ok(child)
 }
 
-/// Starts a worker at each of these stations. Where it fails, some have been started.
+/// Starts a worker with each of these setups. Where it fails, some have been started.
 pub(crate) fn start_all<'s, X, H, S, K, D, B, T>(
     scope: &'s Scope<'s, X>,
     rt: &'s T,
@@ -93,30 +93,39 @@ pub(crate) fn start_all<'s, X, H, S, K, D, B, T>(
     pass: &mut QueuePass<S::Job>,
     sleepers: &mut Sleepers<B>,
     children: &mut Vec<Child<S, K>>,
-    stations: Vec<Station<S::Worker, K, D, B>>,
+    worker_setups: Vec<WorkerSetup<S::Worker, K, D, B>>,
 ) -> Result<(), RunFault>
 where
     H: Accepts<S::Job> + Send + Sync,
     S: Service,
     K: Sink<S> + Drop + Send + 's,
     D: Readiness<S> + Drop + Send + 's,
-    B: Bell + Drop,
+    B: Wakeup + Drop,
     T: Threads + Wait + Sync,
     requires queue { IsPassOf queue.now pass.old × (view pass.old ≡ leader) }
     requires accepts { (job : S.Job) → H.accepts job → S.accepts service.now job }
-    requires new { Every (IsNew K.told K.has_room) stations.items }
+    requires new { Every (IsNew K.told K.has_room) worker_setups.items }
     requires none { children.old.items ≡ [] }
     ensures queue { IsPassOf queue.now pass.new × (view pass.new ≡ leader) }
     ensures children { Every (IsOn queue.now.table.shared.table_id service.now) children.new.items }
     ensures workers { IfOk result (λ _.
-        map state_before children.new.items ≡ map worker_of stations.items) }
+        map state_before children.new.items ≡ map worker_of worker_setups.items) }
     ensures fault { IfErr result IsOfRun }
 {
-    let Ok(()) = children.reserve(stations.len()) else {
+    let Ok(()) = children.reserve(worker_setups.len()) else {
         return Err(RunFault::NoMemory);
     };
-    for station in stations {
-        match start_one(scope, rt, alloc, service, queue, pass, sleepers, station) {
+    for worker_setup in worker_setups {
+        match start_one(
+            scope,
+            rt,
+            alloc,
+            service,
+            queue,
+            pass,
+            sleepers,
+            worker_setup,
+        ) {
             Ok(child) => children.push_reserved(child),
             Err(fault) => return Err(fault),
         }

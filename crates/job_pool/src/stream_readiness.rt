@@ -1,7 +1,7 @@
 //! What a worker waits with whose jobs read and write streams.
 use crate::readiness::Turn;
 use crate::rounds::Rounds;
-use crate::service::Moved;
+use crate::service::StepOutcome;
 use std::sync::Wait;
 
 /// What a worker waits with, and which of its slots have their turn, where each job is a session over a reader and a writer: a
@@ -26,10 +26,10 @@ pub trait StreamReadiness<R, W> {
     fn ends_turn(&mut self, slot: usize, before: u32) -> bool;
 
     /// What came of the turn of a slot. Behind `Going` the slot is to have a further turn, and behind `Over` it is free.
-    fn after(&mut self, slot: usize, moved: Moved);
+    fn after(&mut self, slot: usize, moved: StepOutcome);
 
-    /// Waits until a slot is ready, the bell is rung, or it is time to look. `is_idle` where no session is open. It returns at once where a turn
-    /// is due, or where the bell was rung since it last returned.
+    /// Waits until a slot is ready, it is woken, or it is time to look. `is_idle` where no session is open. It returns at once where a turn
+    /// is due, or where it was woken since it last returned.
     fn wait<T: Wait>(&mut self, rt: &T, is_idle: bool);
 }
 
@@ -55,7 +55,7 @@ impl<R, W> StreamReadiness<R, W> for Rounds {
         false
     }
 
-    fn after(&mut self, _slot: usize, _moved: Moved) {}
+    fn after(&mut self, _slot: usize, _moved: StepOutcome) {}
 
     fn wait<T: Wait>(&mut self, rt: &T, is_idle: bool) {
         if is_idle {

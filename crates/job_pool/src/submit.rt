@@ -7,12 +7,12 @@ ghost use Rattle.job_pool.specs.Queue.{leader, after_push, IsAcceptedTask, IsNex
 use crate::fault::RunFault;
 use crate::jobs::Jobs;
 use crate::queue::{Accepts, JobQueue, NumberedJob, Push, QueuePass, Task};
-use crate::readiness::Bell;
+use crate::readiness::Wakeup;
 use crate::sleepers::Sleepers;
 use std::sync::Wait;
 
 /// Puts a task into the queue. Where the queue is full it sleeps until a worker has taken a task.
-fn submit<H: Accepts<J>, J, B: Bell + Drop, T: Wait>(
+fn submit<H: Accepts<J>, J, B: Wakeup + Drop, T: Wait>(
     rt: &T,
     queue: &JobQueue<H, J>,
     pass: &mut QueuePass<J>,
@@ -50,7 +50,7 @@ where
     H: Accepts<G::Job>,
     G: Jobs,
     G::Job: Drop,
-    B: Bell + Drop,
+    B: Wakeup + Drop,
     T: Wait,
     requires queue { IsPassOf queue.now pass.old × (view pass.old ≡ leader) }
     requires accepts { GivesOnly G.gives H.accepts jobs.old }
@@ -81,7 +81,7 @@ where
 }
 
 /// Puts a stop mark into the queue for each worker, and wakes all.
-pub(crate) fn submit_stops<H: Accepts<J>, J, B: Bell + Drop, T: Wait>(
+pub(crate) fn submit_stops<H: Accepts<J>, J, B: Wakeup + Drop, T: Wait>(
     rt: &T,
     queue: &JobQueue<H, J>,
     pass: &mut QueuePass<J>,

@@ -5,7 +5,7 @@ ghost use Rattle.crossbeam_queue.specs.Passes.{view, IsPassOf};
 ghost use Rattle.job_pool.specs.Queue.{newcomer};
 ghost use Rattle.job_pool.specs.Ends.{HasWorked};
 
-use crate::desk::Desk;
+use crate::open_jobs::OpenJobs;
 use crate::queue::{Accepts, JobQueue, Pop, QueuePass, Task};
 use crate::readiness::Readiness;
 use crate::service::Service;
@@ -83,7 +83,7 @@ fn take_task<'a, H, S, K, D, T>(
     queue: &JobQueue<H, S::Job>,
     pass: &mut QueuePass<S::Job>,
     to_leader: &Leader,
-    desk: &mut Desk<'a, S, K>,
+    open_jobs: &mut OpenJobs<'a, S, K>,
     waits: &mut D,
 ) -> Took
 where
@@ -93,19 +93,19 @@ where
     D: Readiness<S>,
     T: Wait,
     requires queue { IsPassOf queue.now pass.old }
-    requires accepts { (job : S.Job) → H.accepts job → S.accepts desk.old.service job }
-    requires taken { desk.old.taken ≡ (view pass.old).taken }
+    requires accepts { (job : S.Job) → H.accepts job → S.accepts open_jobs.old.service job }
+    requires taken { open_jobs.old.taken ≡ (view pass.old).taken }
     ensures queue { IsPassOf queue.now pass.new }
-    ensures taken { desk.new.taken ≡ (view pass.new).taken }
-    ensures service { desk.new.service ≡ desk.old.service }
-    ensures first { desk.new.first ≡ desk.old.first }
+    ensures taken { open_jobs.new.taken ≡ (view pass.new).taken }
+    ensures service { open_jobs.new.service ≡ open_jobs.old.service }
+    ensures first { open_jobs.new.first ≡ open_jobs.old.first }
 {
     match queue.pop_as::<Pop<H>, T>(rt, pass) {
         Some(Task::Serve(next)) => {
             to_leader.wake();
-            let has_room = desk.reserve(alloc);
-            if let Some(slot) = desk.begin(alloc, next, has_room) {
-                if let Some(opened) = desk.opened(slot) {
+            let has_room = open_jobs.reserve(alloc);
+            if let Some(slot) = open_jobs.begin(alloc, next, has_room) {
+                if let Some(opened) = open_jobs.opened(slot) {
                     waits.begin(slot, opened);
                 }
             }
@@ -127,7 +127,7 @@ fn take_tasks<'a, H, S, K, D, T>(
     queue: &JobQueue<H, S::Job>,
     pass: &mut QueuePass<S::Job>,
     to_leader: &Leader,
-    desk: &mut Desk<'a, S, K>,
+    open_jobs: &mut OpenJobs<'a, S, K>,
     waits: &mut D,
 ) -> Took
 where
@@ -137,19 +137,19 @@ where
     D: Readiness<S>,
     T: Wait,
     requires queue { IsPassOf queue.now pass.old }
-    requires accepts { (job : S.Job) → H.accepts job → S.accepts desk.old.service job }
-    requires taken { desk.old.taken ≡ (view pass.old).taken }
+    requires accepts { (job : S.Job) → H.accepts job → S.accepts open_jobs.old.service job }
+    requires taken { open_jobs.old.taken ≡ (view pass.old).taken }
     ensures queue { IsPassOf queue.now pass.new }
-    ensures taken { desk.new.taken ≡ (view pass.new).taken }
-    ensures service { desk.new.service ≡ desk.old.service }
-    ensures first { desk.new.first ≡ desk.old.first }
+    ensures taken { open_jobs.new.taken ≡ (view pass.new).taken }
+    ensures service { open_jobs.new.service ≡ open_jobs.old.service }
+    ensures first { open_jobs.new.first ≡ open_jobs.old.first }
 {
     let mut took = Took::Nothing;
     for _ in 0..MAX_TASKS_PER_ROUND {
-        if !waits.takes(desk.is_empty()) {
+        if !waits.takes(open_jobs.is_empty()) {
             return took;
         }
-        match take_task(rt, alloc, queue, pass, to_leader, desk, waits) {
+        match take_task(rt, alloc, queue, pass, to_leader, open_jobs, waits) {
             Took::Jobs => took = Took::Jobs,
             Took::Stop => return Took::Stop,
             Took::Nothing => return took,
@@ -161,17 +161,17 @@ where
 /// Gives each slot that is to have one a turn.
 fn take_turns<'a, S: Service, K: Sink<S> + Drop, D: Readiness<S>>(
     alloc: Global,
-    desk: &mut Desk<'a, S, K>,
+    open_jobs: &mut OpenJobs<'a, S, K>,
     waits: &mut D,
 )
-    ensures service { desk.new.service ≡ desk.old.service }
-    ensures first { desk.new.first ≡ desk.old.first }
-    ensures taken { desk.new.taken ≡ desk.old.taken }
+    ensures service { open_jobs.new.service ≡ open_jobs.old.service }
+    ensures first { open_jobs.new.first ≡ open_jobs.old.first }
+    ensures taken { open_jobs.new.taken ≡ open_jobs.old.taken }
 {
     for _ in 0..u64::MAX {
         match waits.next() {
             Some(turn) => {
-                let moved = desk.take_turn(alloc, turn, waits);
+                let moved = open_jobs.take_turn(alloc, turn, waits);
                 waits.after(turn.slot, moved);
             }
             None => return,
@@ -187,7 +187,7 @@ fn work_once<'a, H, S, K, D, T>(
     queue: &JobQueue<H, S::Job>,
     pass: &mut QueuePass<S::Job>,
     to_leader: &Leader,
-    desk: &mut Desk<'a, S, K>,
+    open_jobs: &mut OpenJobs<'a, S, K>,
     waits: &mut D,
     is_stopped: bool,
 ) -> bool
@@ -198,28 +198,28 @@ where
     D: Readiness<S>,
     T: Wait,
     requires queue { IsPassOf queue.now pass.old }
-    requires accepts { (job : S.Job) → H.accepts job → S.accepts desk.old.service job }
-    requires taken { desk.old.taken ≡ (view pass.old).taken }
+    requires accepts { (job : S.Job) → H.accepts job → S.accepts open_jobs.old.service job }
+    requires taken { open_jobs.old.taken ≡ (view pass.old).taken }
     ensures queue { IsPassOf queue.now pass.new }
-    ensures taken { desk.new.taken ≡ (view pass.new).taken }
-    ensures service { desk.new.service ≡ desk.old.service }
-    ensures first { desk.new.first ≡ desk.old.first }
+    ensures taken { open_jobs.new.taken ≡ (view pass.new).taken }
+    ensures service { open_jobs.new.service ≡ open_jobs.old.service }
+    ensures first { open_jobs.new.first ≡ open_jobs.old.first }
 {
-    let was_idle = desk.is_empty();
+    let was_idle = open_jobs.is_empty();
     if !is_stopped {
-        match take_tasks(rt, alloc, queue, pass, to_leader, desk, waits) {
+        match take_tasks(rt, alloc, queue, pass, to_leader, open_jobs, waits) {
             Took::Jobs => {
-                take_turns(alloc, desk, waits);
+                take_turns(alloc, open_jobs, waits);
                 return false;
             }
             Took::Stop => return true,
             Took::Nothing => {}
         }
     }
-    take_turns(alloc, desk, waits);
+    take_turns(alloc, open_jobs, waits);
 
-    // who has just become idle looks for a task first: the bell may have been rung for it long ago
-    let is_idle = desk.is_empty();
+    // who has just become idle looks for a task first: the wakeup may have been rung for it long ago
+    let is_idle = open_jobs.is_empty();
     if !is_idle || (was_idle && !is_stopped) {
         waits.wait(rt, is_idle);
     }
@@ -228,19 +228,19 @@ where
 
 /// What a worker gives back whose jobs have all ended.
 fn finish<'a, S: Service, K: Sink<S> + Drop>(
-    desk: Desk<'a, S, K>,
+    open_jobs: OpenJobs<'a, S, K>,
     pass: QueuePass<S::Job>,
 ) -> WorkerOutput<S::Worker, S::Job, K>
-    requires empty { slab_len desk.seats ≡ 0 }
-    requires taken { desk.taken ≡ (view pass).taken }
+    requires empty { slab_len open_jobs.jobs ≡ 0 }
+    requires taken { open_jobs.taken ≡ (view pass).taken }
     ensures pass { result.pass ≡ pass }
-    ensures worked { HasWorked (S.serves desk.entry.service) (view result.pass).taken
+    ensures worked { HasWorked (S.serves open_jobs.entry.service) (view result.pass).taken
         (K.told result.left.sink) result.left.taken result.left.refused
-        desk.entry.first result.left.worker }
+        open_jobs.entry.first result.left.worker }
 {
     WorkerOutput {
         pass,
-        left: desk.into_left(),
+        left: open_jobs.into_left(),
     }
 }
 
@@ -273,14 +273,21 @@ where
 {
     let mut mine = pass;
     let mut waits = readiness;
-    let mut desk = Desk::new(alloc, service, worker, sink);
+    let mut open_jobs = OpenJobs::new(alloc, service, worker, sink);
     let mut is_stopped = false;
     for _ in rt.forever() {
         is_stopped = work_once(
-            rt, alloc, queue, &mut mine, &to_leader, &mut desk, &mut waits, is_stopped,
+            rt,
+            alloc,
+            queue,
+            &mut mine,
+            &to_leader,
+            &mut open_jobs,
+            &mut waits,
+            is_stopped,
         );
-        if is_stopped && desk.is_empty() {
-            return finish(desk, mine);
+        if is_stopped && open_jobs.is_empty() {
+            return finish(open_jobs, mine);
         }
     }
     unreachable!()

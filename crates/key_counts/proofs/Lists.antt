@@ -1,5 +1,5 @@
 -- Lists that grow.
-use Rattle.std.proofs.Common.{◌≡◌, ◌+◌, ℕ, List, [], ◌∷◌, ◌++◌, length, subst}
+use Rattle.std.proofs.Common.{◌≡◌, ℕ, List, [], ◌∷◌, ◌++◌, length, subst}
 use Rattle.std.specs.Prelude.{Some, slice_get, zero, suc}
 
 -- what holds of each element at its index, with one more

@@ -79,10 +79,10 @@ module _ (state : State Content) (behind : Option Key) where
             ∙ capped-both (counts_of so_far.keys) (one_key there) ∙ ap capped (sym (counts-push so_far.keys entry));
       }
 
-  -- behind the last key there are none
-  pub walk-last : (at : Option Key) (counts : KeyCounts) → SoFar state behind at counts → next_entry key_cmp at state.keys ≡ None
-      → IsStretch state behind at (record { counts = counts; is_last = true })
-  walk-last at counts so_far next = record {
+  -- behind the last key there are none, whatever key is told beside it
+  pub walk-last : (at up_to : Option Key) (counts : KeyCounts) → SoFar state behind at counts → next_entry key_cmp at state.keys ≡ None
+      → IsStretch state behind up_to (record { counts = counts; is_last = true })
+  walk-last at up_to counts so_far next = record {
     keys = so_far.keys;
     are = so_far.are ∙ ap (λ (es : Keys). so_far.keys ++ es) (behind-last state at next);
     counted = so_far.counted;

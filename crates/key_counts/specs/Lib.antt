@@ -3,3 +3,4 @@ pub mod Looks
 pub mod Partitions
 pub mod Stored
 pub mod Sums
+pub mod Walk

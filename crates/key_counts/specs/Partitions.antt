@@ -50,3 +50,7 @@ counts_at partition = plus partition.primary.counts (option_map_or (λ fallback.
 -- what all of them store together
 abbrev pub total_in : List PartitionCounts → KeyCounts
 total_in partitions = capped (sum_of (map counts_at partitions))
+
+-- these are the sums of what was counted of each partition that the ring has
+abbrev pub IsCountOfAll : HandoffView → KeyCounts → Type 0
+IsCountOfAll handoff counts = (partitions : List PartitionCounts) × AreCounted handoff partitions × (counts ≡ total_in partitions)

@@ -1,15 +1,17 @@
 //! How much a vnode stores, counted key by key, in stretches.
 
-ghost use Rattle.std.specs.Prelude.{◌≡◌, ◌-◌, ◌^◌, min, IfOk};
+ghost use Rattle.std.specs.Prelude.{◌≡◌, ◌-◌, ◌^◌, min, IfOk, IfSome};
+ghost use Rattle.names.specs.KeyRefs.{key_found};
 ghost use Rattle.vnode_core.specs.Left.{stored_of};
 ghost use Rattle.vnode_core.specs.Vnodes.{IsSound};
 ghost use Rattle.key_counts.specs.Sums.{capped, no_counts, plus};
 ghost use Rattle.key_counts.specs.Stored.{bytes_of, is_dead, one_if, one_key};
 ghost use Rattle.key_counts.specs.Stored.{siblings_of, value_len, IsStretch};
 
+use crate::walk::next_key;
 use riak_msgs::{Content, Key};
 use std::alloc::{AllocError, Global};
-use vnode_core::{StoredClock, Vnode, given_parts};
+use vnode_core::{FoundKey, StoredClock, Vnode};
 
 /// How much is stored. Each number stops at 18,446,744,073,709,551,615.
 #[derive(Clone, Copy, Drop, PartialEq, Eq)]
@@ -104,7 +106,8 @@ fn count_key(stored: &StoredClock) -> KeyCounts
     }
 }
 
-/// How many keys are counted under one right to read: behind so many others have theirs.
+/// How many keys are counted under one right to read: behind so many others have theirs. More are where there is no
+/// memory to copy the last of them.
 pub const PIECE_KEYS: usize = 1_000;
 
 /// What was counted of a stretch of keys.
@@ -115,9 +118,24 @@ pub struct Stretch {
     pub is_last: bool,
 }
 
+/// The key at which a piece ends that has counted so much: the last of them, copied, where they are 1,000 or more. None
+/// where they are fewer, or memory is refused.
+fn ends_at(alloc: Global, counts: KeyCounts, last: &FoundKey<'_>) -> Option<Key>
+    ensures { IfSome result (λ key. key ≡ key_found last.now) }
+{
+    if counts.keys < PIECE_KEYS as u64 {
+        return None;
+    }
+    match last.to_key(alloc) {
+        Ok(key) => Some(key),
+        Err(_) => None,
+    }
+}
+
 /// What a vnode stores behind a key, or from the first where none is given, counted key by key: 1,000
-/// keys, or as many as there are. The key becomes the last of them. Each is copied, to go on from it:
-/// refused where memory is. It leaves the vnode as it is.
+/// keys, or as many as there are. The last of them is copied to the key, to go on from it. Where memory
+/// is refused for that, the next ones are counted too, until one can be copied or there is no more; the
+/// last stretch leaves the key as it is. So it needs no memory. It leaves the vnode as it is.
 pub(crate) fn count_stretch(
     alloc: Global,
     vnode: &Vnode,
@@ -127,19 +145,26 @@ pub(crate) fn count_stretch(
     ensures { IfOk result (IsStretch vnode.now.state at.old at.new) }
 {
     let mut counts = KeyCounts::none();
-    for _ in 0..PIECE_KEYS {
-        let Some((parts, stored)) = vnode.next_key(given_parts(at.as_ref())) else {
+    let mut found = None;
+    loop {
+        let next = match next_key(alloc, vnode, at.as_ref(), &found) {
+            Ok(next) => next,
+            Err(error) => return Err(error),
+        };
+        let Some((parts, stored)) = next else {
             return Ok(Stretch {
                 counts,
                 is_last: true,
             });
         };
-        let key = parts.to_key(alloc)?;
         counts = counts.plus(count_key(stored));
-        *at = Some(key);
+        if let Some(key) = ends_at(alloc, counts, &parts) {
+            *at = Some(key);
+            return Ok(Stretch {
+                counts,
+                is_last: false,
+            });
+        }
+        found = Some(parts);
     }
-    Ok(Stretch {
-        counts,
-        is_last: false,
-    })
 }

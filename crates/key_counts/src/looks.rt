@@ -18,7 +18,7 @@ use std::sync::Wait;
 pub struct Piece {
     /// The key behind which it began; None where that was the first.
     pub behind: Snapshot<Option<Key>>,
-    /// The key at which it ended.
+    /// The key at which it ended; of the last piece the one behind which it began.
     pub up_to: Snapshot<Option<Key>>,
     pub stretch: Stretch,
     /// What the count's pass had seen then.
@@ -124,8 +124,9 @@ fn count_piece<R: Wait>(
 }
 
 /// What the vnode of a gate stores, by looks of a new pass, each under a right to read of its own, which
-/// others may have in between: 1,000 keys at each. A look is made again where the history had gone on
-/// past the state that was found. It waits; memory may be refused.
+/// others may have in between: 1,000 keys at each, and more where there is no memory to copy the last of
+/// them. A look is made again where the history had gone on past the state that was found. It waits. It needs
+/// no memory, so it refuses nothing (no clause says so): a copy of a name of up to 15 bytes takes none.
 pub fn count_at<R: Wait>(rt: &R, alloc: Global, gate: &Gate<Vnode>) -> Result<Counted, AllocError>
     requires { IsOfVnode gate.now }
     ensures { IfOk result (IsCountedBy gate.now) }

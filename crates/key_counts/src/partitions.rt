@@ -3,11 +3,12 @@
 ghost use Rattle.std.specs.Prelude.{◌≡◌, ◌<◌, ◌^◌, IfOk, Some, slice_get};
 ghost use Rattle.handoff.specs.Sights.{IsOfVnode};
 ghost use Rattle.key_counts.specs.Partitions.{AreCounted, IsCountedAt, IsFallbackCounted};
-ghost use Rattle.key_counts.specs.Partitions.{counts_at, total_in};
+ghost use Rattle.key_counts.specs.Partitions.{IsCountOfAll, counts_at, total_in};
 ghost use Rattle.key_counts.specs.Sums.{capped, plus};
 
 use crate::counts::KeyCounts;
 use crate::looks::{Counted, count_at};
+use ghost_state::GhostList;
 use handoff::{Gate, Handoff, Vnode};
 use std::alloc::{AllocError, Global};
 use std::sync::Wait;
@@ -56,7 +57,7 @@ fn count_fallback<R: Wait>(
 }
 
 /// What the vnodes of a partition store: its primary's, and its fallback's where it has one, each in
-/// pieces. The index is below the ring's size. It waits; memory may be refused.
+/// pieces. The index is below the ring's size. It waits, and needs no memory, as [`count_at`].
 pub fn count_partition<R: Wait>(
     rt: &R,
     alloc: Global,
@@ -70,6 +71,33 @@ pub fn count_partition<R: Wait>(
     let fallback = count_fallback(rt, alloc, handoff, index)?;
     let primary = count_at(rt, alloc, primary_gate(handoff, index))?;
     Ok(PartitionCounts { primary, fallback })
+}
+
+/// A total with what the vnodes of a partition store.
+fn add_partition(total: KeyCounts, partition: &PartitionCounts) -> KeyCounts
+    ensures { result ≡ capped (plus total (counts_at partition.now)) }
+{
+    let total = total.plus(partition.primary.counts);
+    match &partition.fallback {
+        None => total,
+        Some(fallback) => total.plus(fallback.counts),
+    }
+}
+
+/// How much the vnodes of all partitions store together, each piece at a moment of its own, while calls go
+/// on: the sums of what [`count_partitions`] lists, without the list. It waits, and needs no memory, as
+/// [`count_at`].
+pub fn count_all<R: Wait>(rt: &R, alloc: Global, handoff: &Handoff) -> Result<KeyCounts, AllocError>
+    ensures { IfOk result (IsCountOfAll handoff.now) }
+{
+    let mut total = KeyCounts::none();
+    let mut partitions = GhostList::new();
+    for index in 0..handoff.ring().size() {
+        let partition = count_partition(rt, alloc, handoff, index)?;
+        total = add_partition(total, &partition);
+        partitions.push(&partition);
+    }
+    Ok(total)
 }
 
 /// What the vnodes of each partition store, in their order, each piece at a moment of its own, while
@@ -87,17 +115,6 @@ pub fn count_partitions<R: Wait>(
         partitions.push(count_partition(rt, alloc, handoff, index)?)?;
     }
     Ok(partitions)
-}
-
-/// A total with what the vnodes of a partition store.
-fn add_partition(total: KeyCounts, partition: &PartitionCounts) -> KeyCounts
-    ensures { result ≡ capped (plus total (counts_at partition.now)) }
-{
-    let total = total.plus(partition.primary.counts);
-    match &partition.fallback {
-        None => total,
-        Some(fallback) => total.plus(fallback.counts),
-    }
 }
 
 /// The sums of what all of them store.

@@ -10,7 +10,7 @@ use Rattle.gate_node.specs.OneHistory.{IsSeen}
 use Rattle.gate_node.specs.Passes.{Sights, ArePassesOf}
 use Rattle.gate_node.specs.Tallies.{GateHistory}
 use Rattle.gate_node.proofs.Histories.{each_seen}
-use Rattle.session_pool.specs.Suspending.{SuspendedView, CanGoOn}
+use Rattle.session_pool.specs.PausedSessions.{PausedSessionView, CanGoOn}
 use Rattle.session_pool.specs.Telling.{ToldSession, IsToldSession, TellsAll, TellsSource}
 use Rattle.session_pool.proofs.Legal.{told_at}
 use Rattle.worker_pool.specs.declared.job.Job.{Job}
@@ -24,7 +24,7 @@ use Rattle.node_commands.specs.declared.until.ServedUntil.{ServedUntil}
 use Rattle.node_commands.proofs.Sources.{gave_all, new_for}
 
 abbrev Session : Type 0
-Session = SuspendedView RequestHalf ReplyHalf
+Session = PausedSessionView RequestHalf ReplyHalf
 
 abbrev Connection : Type 0
 Connection = Job RequestHalf ReplyHalf

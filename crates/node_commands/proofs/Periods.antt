@@ -12,12 +12,12 @@ use Rattle.gate_node.specs.OneHistory.{IsSeen, ShareHistories}
 use Rattle.gate_node.specs.Passes.{Sights, ArePassesOf}
 use Rattle.gate_node.specs.Tallies.{GateHistory}
 use Rattle.gate_node.proofs.Histories.{each_seen}
-use Rattle.session_pool.specs.declared.served.Served.{Served}
+use Rattle.session_pool.specs.declared.served_sessions.ServedSessions.{ServedSessions}
 use Rattle.session_pool.specs.Resuming.{IsLater, IsOnceDiverted}
-use Rattle.session_pool.specs.Suspending.{CanGoOn, SuspendedView}
+use Rattle.session_pool.specs.PausedSessions.{CanGoOn, PausedSessionView}
 use Rattle.session_pool.specs.Telling.{RestedSession, IsRestedSession, TellsAll, TellsSource, now_of}
 use Rattle.session_pool.proofs.Resuming.{later_on, later_to, passes_later}
-use Rattle.session_pool.proofs.Tellers.{seen_less, seen_same, seen_through}
+use Rattle.session_pool.proofs.EndReporters.{seen_less, seen_same, seen_through}
 use Rattle.socket_streams.specs.declared.halves.RequestHalf.{RequestHalf}
 use Rattle.socket_streams.specs.declared.halves.ReplyHalf.{ReplyHalf}
 use Rattle.socket_streams.specs.Arriving.{ArrivalsView}
@@ -27,7 +27,7 @@ use Rattle.node_commands.specs.declared.controlled.Controlled.{Controlled}
 use Rattle.node_commands.specs.declared.period.Before.{Before}
 use Rattle.node_commands.specs.declared.progress.Progress.{Progress}
 use Rattle.node_commands.specs.declared.progress.Paused.{Paused}
-use Rattle.node_commands.specs.declared.until.UntilSettings.{UntilSettings}
+use Rattle.node_commands.specs.declared.options.ServerSettings.{ServerSettings}
 use Rattle.node_commands.specs.Runs.{IsNewRun, ToldConnections, replies_of}
 use Rattle.handoff_tracks.specs.Tracks.{HaveTracks}
 use Rattle.node_commands.specs.Periods.{AddsUp, AllTellIn, CanServe, GoesThrough, HasRun, HasServed, IsControlled, IsNew, IsReady, Moves, rested_in}
@@ -35,10 +35,10 @@ use Rattle.node_commands.proofs.Begun.{every_at}
 use Rattle.node_commands.proofs.Sources.{gave_all, new_for}
 
 abbrev Session : Type 0
-Session = SuspendedView RequestHalf ReplyHalf
+Session = PausedSessionView RequestHalf ReplyHalf
 
 -- a run of the pool over these gates, whose sessions may rest
-abbrev Told : Gates → SessionsView → Sights → Served RequestHalf ReplyHalf ToldConnections → SessionsView → Sights → Type 0
+abbrev Told : Gates → SessionsView → Sights → ServedSessions RequestHalf ReplyHalf ToldConnections → SessionsView → Sights → Type 0
 Told gates first before served last seen = TellsSource (Unit {0}) (λ _. None) replies_of (λ (sink : ToldConnections). sink) gates GivesSession first before served last seen
 
 -- a listener's connections, of which none has come
@@ -46,7 +46,7 @@ abbrev pub new_source : Gates → Option ℕ → ArrivalsView
 new_source gates limit = record { gates = gates; limit = limit; counts_refused = true; can_stop = true; given = 0; refused = 0 }
 
 -- what a period came to: the sessions were those that rested and one for each of these connections
-pub has_served : (gates : Gates) (old new : Progress) (before : Before) (first last : SessionsView) (served : Served RequestHalf ReplyHalf ToldConnections) (seen : Sights) (accepted away : ℕ)
+pub has_served : (gates : Gates) (old new : Progress) (before : Before) (first last : SessionsView) (served : ServedSessions RequestHalf ReplyHalf ToldConnections) (seen : Sights) (accepted away : ℕ)
     → before ≡ record { totals = old.totals; connections = old.connections; closed = old.closed }
     → first.rested ≡ in_turn (rested_in old) → (limit : Option ℕ) → first.source ≡ new_source gates limit
     → Told gates first old.seen served last seen → accepted ≡ last.source.given + last.source.refused → away ≡ last.source.refused
@@ -80,7 +80,7 @@ each_may : (gates : Gates) (given : List Session) (rested : List (RestedSession 
 each_may gates given [] h = tt
 each_may gates given (one ∷ rested) h = (record { later = later_to one.now.over gates h.0.rests.over; room = h.0.rests.room refl }, each_may gates given rested h.1)
 
-pub is_ready : (gates : Gates) (first last : SessionsView) (before : Before) (old : Sights) (served : Served RequestHalf ReplyHalf ToldConnections) (seen : Sights) (accepted away : ℕ) (new : Progress)
+pub is_ready : (gates : Gates) (first last : SessionsView) (before : Before) (old : Sights) (served : ServedSessions RequestHalf ReplyHalf ToldConnections) (seen : Sights) (accepted away : ℕ) (new : Progress)
     → Told gates first old served last seen → ArePassesOf gates seen → AddsUp before served accepted away seen new → IsReady gates new
 is_ready gates first last before old served seen accepted away new told passes adds = record {
   rested = subst (λ resting. Every (CanGoOn gates) (concat (map (λ one. one.items) resting.items))) (sym adds.rested) (subst (Every (CanGoOn gates)) told.2.rests (each_may gates told.0 told.2.rested told.2.each_rests));
@@ -95,7 +95,7 @@ within_left (Some most) left old accepted new is before few sum =
     omega (arith, before, few', sum)
 
 -- so behind a run of the pool
-pub still_within : (gates : Gates) (old : Progress) (first last : SessionsView) (served : Served RequestHalf ReplyHalf ToldConnections) (seen : Sights) (limit left : Option ℕ) (accepted new : ℕ)
+pub still_within : (gates : Gates) (old : Progress) (first last : SessionsView) (served : ServedSessions RequestHalf ReplyHalf ToldConnections) (seen : Sights) (limit left : Option ℕ) (accepted new : ℕ)
     → first.source ≡ new_source gates left → Told gates first old.seen served last seen → left ≡ option_map (λ most. most - old.connections) limit → IfSome limit (λ most. old.connections ≤ most)
     → IfSome last.source.limit (λ most. accepted ≤ most) → new ≡ old.connections + accepted → IfSome limit (λ most. new ≤ most)
 still_within gates old first last served seen limit left accepted new source told is before few sum =
@@ -108,7 +108,7 @@ goes_on : (first : Paused) (path : List Paused) (last next : Paused) → GoesThr
 goes_on first [] last next same move = (subst (λ (from : Paused). Moves from next) same move, refl)
 goes_on first (one ∷ path) last next goes move = (goes.0, goes_on one path last next goes.1 move)
 
-run_on : (settings : UntilSettings) (last next : Paused) → HasRun settings last → Moves last next → HasRun settings next
+run_on : (settings : ServerSettings) (last next : Paused) → HasRun settings last → Moves last next → HasRun settings next
 run_on settings last next run move = record {
   first = run.first;
   of_run = run.of_run;
@@ -118,8 +118,8 @@ run_on settings last next run move = record {
 }
 
 -- behind a period a server may go on
-pub serves_on : (settings : UntilSettings) (last next : Paused) → CanServe settings last → next.shared ≡ last.shared → HasServed last.shared last.progress next.progress → IsReady next.shared next.progress
-    → IfSome settings.connections (λ limit. next.progress.connections ≤ limit) → CanServe settings next
+pub serves_on : (settings : ServerSettings) (last next : Paused) → CanServe settings last → next.shared ≡ last.shared → HasServed last.shared last.progress next.progress → IsReady next.shared next.progress
+    → IfSome settings.options.connections (λ limit. next.progress.connections ≤ limit) → CanServe settings next
 serves_on settings last next can same served ready limit = record {
   run = run_on settings last next can.run (inl (same, served));
   ready = ready;
@@ -133,7 +133,7 @@ go_later old new later [] may = tt
 go_later old new later (session ∷ sessions) may =
     (record { later = later_on session.over old new may.0.later later; room = may.0.room }, go_later old new later sessions may.1)
 
-pub diverts : (settings : UntilSettings) (last next : Paused) (index : ℕ) → CanServe settings last → IsOnceDiverted index last.shared next.shared → next.progress ≡ last.progress → CanServe settings next
+pub diverts : (settings : ServerSettings) (last next : Paused) (index : ℕ) → CanServe settings last → IsOnceDiverted index last.shared next.shared → next.progress ≡ last.progress → CanServe settings next
 diverts settings last next index can diverted same =
     let later : IsLater last.shared next.shared = (index ∷ [], (next.shared, diverted, refl)) in
     record {
@@ -143,7 +143,7 @@ diverts settings last next index can diverted same =
         passes = subst (λ (p : Progress). ArePassesOf next.shared p.seen) (sym same) (passes_later last.shared next.shared last.progress.seen later can.ready.passes);
       };
       budget = can.budget ∙ sym diverted.budget;
-      limit = subst (λ (p : Progress). IfSome settings.connections (λ limit. p.connections ≤ limit)) (sym same) can.limit;
+      limit = subst (λ (p : Progress). IfSome settings.options.connections (λ limit. p.connections ≤ limit)) (sym same) can.limit;
     }
 
 none_more : (limit : Option ℕ) (n : ℕ) → n ≡ 0 → IfSome limit (λ most. n ≤ most)
@@ -151,12 +151,12 @@ none_more None n none = tt
 none_more (Some most) n none = omega (arith, none)
 
 -- a server whose workers haven't begun may
-pub begins : (settings : UntilSettings) (first : Paused) → IsNewRun settings.ring settings.run settings.sweep first.shared → IsNew first.shared first.progress → CanServe settings first
+pub begins : (settings : ServerSettings) (first : Paused) → IsNewRun settings.ring settings.options.run settings.options.sweep first.shared → IsNew first.shared first.progress → CanServe settings first
 begins settings first of_run is = record {
   run = record { first = first; of_run = of_run; begins = is; path = []; goes = refl };
   ready = record { rested = subst (λ lists. Every (CanGoOn first.shared) (concat (map (λ one. one.items) lists))) (sym is.none) tt; passes = is.passes };
   budget = sym of_run.budget;
-  limit = none_more settings.connections first.progress.connections is.unaccepted;
+  limit = none_more settings.options.connections first.progress.connections is.unaccepted;
 }
 
 -- what a server had seen it has seen later on, and its passes are of the same gates
@@ -176,7 +176,7 @@ all_tell histories first (next ∷ path) last (inl (same, served), goes) saw =
 all_tell histories first (next ∷ path) last (inr (same, index, diverted), goes) saw = (tt, all_tell histories next path last goes saw)
 
 -- what came of a server that ended so, with tallies of what its passes have seen
-pub is_controlled : (settings : UntilSettings) (last : Paused) (outcome : Controlled) → CanServe settings last
+pub is_controlled : (settings : ServerSettings) (last : Paused) (outcome : Controlled) → CanServe settings last
     → ShareHistories (λ (s : Sights). s) last.shared.gates (last.progress.seen ∷ []) outcome.tallies.tallies.items outcome.tallies.count_all
     → outcome.totals ≡ last.progress.totals → outcome.connections ≡ last.progress.connections → outcome.closed ≡ last.progress.closed → HaveTracks (handoff_of last.shared) outcome.tracks → IsControlled settings outcome
 is_controlled settings last outcome can history totals connections closed tracks =
@@ -198,7 +198,7 @@ is_controlled settings last outcome can history totals connections closed tracks
     }
 
 -- a server that wasn't changed may go on as before
-pub stays : (settings : UntilSettings) (last next : Paused) → CanServe settings last → next.shared ≡ last.shared → next.progress ≡ last.progress → CanServe settings next
+pub stays : (settings : ServerSettings) (last next : Paused) → CanServe settings last → next.shared ≡ last.shared → next.progress ≡ last.progress → CanServe settings next
 stays settings last next can same progress =
     subst (λ (gates : Gates). CanServe settings (record { shared = gates; progress = next.progress })) (sym same)
     (subst (λ (p : Progress). CanServe settings (record { shared = last.shared; progress = p })) (sym progress) can)

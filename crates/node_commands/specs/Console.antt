@@ -1,5 +1,5 @@
 -- What an operator's console answers.
-use Rattle.std.specs.Prelude.{◌≡◌, ◌<◌, ◌⊎◌, ◌↔◌, ◌^◌, ℕ, List, true}
+use Rattle.std.specs.Prelude.{◌≡◌, ◌<◌, ◌⊎◌, ◌↔◌, ◌^◌, ℕ, true}
 use Rattle.handoff.specs.Copying.{IsCopiedBack, IsCopyFault}
 use Rattle.handoff.specs.Partitions.{HandoffView, IsDivertRefused}
 use Rattle.handoff.specs.Returning.{HasReturned, IsReturnFault}
@@ -13,8 +13,7 @@ use Rattle.control_text.specs.declared.refusal.OperatorRefusal.{OperatorRefusal}
 use Rattle.control_text.specs.declared.refusal.OperatorRefusal.TheVariants.{NoPartition, AlreadyDiverted, NotDiverted, LeftOver, NoMemory, GateStopped}
 use Rattle.gate_node.specs.Gates.{Gates, handoff_of}
 use Rattle.key_counts.specs.declared.counts.KeyCounts.{KeyCounts}
-use Rattle.key_counts.specs.declared.partitions.PartitionCounts.{PartitionCounts}
-use Rattle.key_counts.specs.Partitions.{AreCounted, total_in}
+use Rattle.key_counts.specs.Partitions.{IsCountOfAll}
 use Rattle.session_pool.specs.Resuming.{IsOnceDiverted}
 use Rattle.node_commands.specs.declared.progress.Paused.{Paused}
 
@@ -28,7 +27,7 @@ refusal_of partition faults.GateStopped = GateStopped partition
 
 -- the vnodes of all partitions store this much together, by a look at each
 abbrev pub IsStored : HandoffView → KeyCounts → Type 0
-IsStored handoff counts = (partitions : List PartitionCounts) × AreCounted handoff partitions × (counts ≡ total_in partitions)
+IsStored handoff counts = IsCountOfAll handoff counts
 
 -- keys were copied back, so many, and some are left or none; or why not
 abbrev pub AnswersCopy : HandoffView → (partition budget : ℕ) → OperatorAnswer → Type 0

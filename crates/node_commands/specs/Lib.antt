@@ -1,6 +1,5 @@
 -- The definitions of this crate.
 pub mod Runs
 pub mod Lines
-pub mod Asked
 pub mod Periods
 pub mod Console

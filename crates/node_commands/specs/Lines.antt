@@ -1,5 +1,5 @@
 -- The lines that a run of connections writes, and why it stopped in words.
-use Rattle.std.specs.Prelude.{ℕ, List, Option, Some, None, codes, decimal, ◌++◌}
+use Rattle.std.specs.Prelude.{ℕ, List, [], Option, Some, None, codes, decimal, ◌++◌}
 use Rattle.key_counts.specs.declared.counts.KeyCounts.{KeyCounts}
 use Rattle.stats_book.specs.declared.totals.Totals.{Totals}
 use Rattle.node_commands.specs.declared.fault.ServeFault.{ServeFault}
@@ -25,14 +25,22 @@ totals_line t = commands_text t ++ others_text t
 abbrev pub open_text : Totals → ℕ → List ℕ
 open_text t connections = codes " refusals " ++ decimal t.refusals ++ codes " reaps " ++ decimal t.reaps ++ codes " connections " ++ decimal connections
 
--- how much it stores, where that is known, to the line's end
+-- how much it stores, where that is known
 abbrev pub stored_text : Option KeyCounts → List ℕ
-stored_text None = codes "\n"
-stored_text (Some c) = codes " keys " ++ decimal c.keys ++ codes " siblings " ++ decimal c.siblings ++ codes " dead " ++ decimal c.dead_keys ++ codes " bytes " ++ decimal c.value_bytes ++ codes "\n"
+stored_text None = []
+stored_text (Some c) = codes " keys " ++ decimal c.keys ++ codes " siblings " ++ decimal c.siblings ++ codes " dead " ++ decimal c.dead_keys ++ codes " bytes " ++ decimal c.value_bytes
+
+-- how many puts it has refused for want of memory, to the line's end
+abbrev pub refused_text : ℕ → List ℕ
+refused_text puts = codes " puts_refused " ++ decimal puts ++ codes "\n"
+
+-- both
+abbrev pub held_text : Option KeyCounts → ℕ → List ℕ
+held_text counts puts = stored_text counts ++ refused_text puts
 
 -- the line of its totals
-abbrev pub open_line : Totals → ℕ → Option KeyCounts → List ℕ
-open_line t connections counts = commands_text t ++ open_text t connections ++ stored_text counts
+abbrev pub open_line : Totals → ℕ → Option KeyCounts → ℕ → List ℕ
+open_line t connections counts puts = commands_text t ++ open_text t connections ++ held_text counts puts
 
 -- why serving stopped, in words
 abbrev pub serve_fault_text : ServeFault → List ℕ

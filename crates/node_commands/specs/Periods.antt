@@ -8,9 +8,9 @@ use Rattle.gate_node.specs.OneHistory.{ShareHistories}
 use Rattle.gate_node.specs.Passes.{Sights, ArePassesOf, AreUnused}
 use Rattle.gate_node.specs.Tallies.{GateHistory}
 use Rattle.worker_pool.specs.declared.job.Job.{Job}
-use Rattle.session_pool.specs.declared.served.Served.{Served}
+use Rattle.session_pool.specs.declared.served_sessions.ServedSessions.{ServedSessions}
 use Rattle.session_pool.specs.Resuming.{IsOnceDiverted}
-use Rattle.session_pool.specs.Suspending.{CanGoOn, SuspendedView}
+use Rattle.session_pool.specs.PausedSessions.{CanGoOn, PausedSessionView}
 use Rattle.session_pool.specs.Telling.{TellsAll}
 use Rattle.socket_streams.specs.declared.halves.RequestHalf.{RequestHalf}
 use Rattle.socket_streams.specs.declared.halves.ReplyHalf.{ReplyHalf}
@@ -20,12 +20,12 @@ use Rattle.node_commands.specs.declared.controlled.Controlled.{Controlled}
 use Rattle.node_commands.specs.declared.period.Before.{Before}
 use Rattle.node_commands.specs.declared.progress.Progress.{Progress}
 use Rattle.node_commands.specs.declared.progress.Paused.{Paused}
-use Rattle.node_commands.specs.declared.until.UntilSettings.{UntilSettings}
+use Rattle.node_commands.specs.declared.options.ServerSettings.{ServerSettings}
 use Rattle.handoff_tracks.specs.Tracks.{HaveTracks}
 use Rattle.node_commands.specs.Runs.{IsAtPositions, IsNewRun, ToldConnections, replies_of}
 
 -- the sessions that rest, of each worker
-abbrev pub rested_in : Progress → List (List (SuspendedView RequestHalf ReplyHalf))
+abbrev pub rested_in : Progress → List (List (PausedSessionView RequestHalf ReplyHalf))
 rested_in progress = map (λ one. one.items) progress.rested.items
 
 -- no session has begun over these gates
@@ -47,7 +47,7 @@ pub record IsReady (gates : Gates) (progress : Progress) : Type 0 where
 pub record HasServed (gates : Gates) (old new : Progress) : Type 0 where
   pub jobs : List (Job RequestHalf ReplyHalf)
   pub fresh : Every (IsNewConnection gates) jobs
-  pub served : Served RequestHalf ReplyHalf ToldConnections
+  pub served : ServedSessions RequestHalf ReplyHalf ToldConnections
   pub told : TellsAll (Unit {0}) (λ _. None) replies_of (λ sink. sink) gates (in_turn (rested_in old) ++ map (begun_by gates) jobs) old.seen served new.seen
   pub rested : new.rested ≡ served.resting
   pub totals : new.totals ≡ both old.totals served.totals
@@ -56,7 +56,7 @@ pub record HasServed (gates : Gates) (old new : Progress) : Type 0 where
   pub connections : new.connections ≡ old.connections + (length jobs + away)
 
 -- what the workers have come to behind a run of the pool, in which so many connections were accepted and so many closed, where so much was counted before
-pub record AddsUp (before : Before) (served : Served RequestHalf ReplyHalf ToldConnections) (accepted away : ℕ) (seen : Sights) (progress : Progress) : Type 0 where
+pub record AddsUp (before : Before) (served : ServedSessions RequestHalf ReplyHalf ToldConnections) (accepted away : ℕ) (seen : Sights) (progress : Progress) : Type 0 where
   pub rested : progress.rested ≡ served.resting
   pub seen_is : progress.seen ≡ seen
   pub totals : progress.totals ≡ both before.totals served.totals
@@ -74,19 +74,19 @@ GoesThrough first [] last = last ≡ first
 GoesThrough first (next ∷ path) last = Moves first next × GoesThrough next path last
 
 -- from a new run by these settings on, whose workers hadn't begun
-pub record HasRun (settings : UntilSettings) (last : Paused) : Type 0 where
+pub record HasRun (settings : ServerSettings) (last : Paused) : Type 0 where
   pub first : Paused
-  pub of_run : IsNewRun settings.ring settings.run settings.sweep first.shared
+  pub of_run : IsNewRun settings.ring settings.options.run settings.options.sweep first.shared
   pub begins : IsNew first.shared first.progress
   pub path : List Paused
   pub goes : GoesThrough first path last
 
 -- it may go on, and no more connections were accepted than are to be
-pub record CanServe (settings : UntilSettings) (last : Paused) : Type 0 where
+pub record CanServe (settings : ServerSettings) (last : Paused) : Type 0 where
   pub run : HasRun settings last
   pub ready : IsReady last.shared last.progress
-  pub budget : settings.sweep ≡ last.shared.budget
-  pub limit : IfSome settings.connections (λ limit. last.progress.connections ≤ limit)
+  pub budget : settings.options.sweep ≡ last.shared.budget
+  pub limit : IfSome settings.options.connections (λ limit. last.progress.connections ≤ limit)
 
 -- in a period the sessions that ended are by steps in these histories
 abbrev pub TellsIn : List GateHistory → (old new : Paused) → Moves old new → Type 0
@@ -100,10 +100,10 @@ AllTellIn histories first (next ∷ path) last goes = TellsIn histories first ne
 
 -- What came of a server. The totals are what all sessions counted, and the tallies are those of one history of each primary's vnode through all of it: each
 -- reply at a primary of each session that ended, in whatever period, is at a position of that. What is known of the partitions' diversions holds.
-pub record IsControlled (settings : UntilSettings) (outcome : Controlled) : Type 0 where
+pub record IsControlled (settings : ServerSettings) (outcome : Controlled) : Type 0 where
   pub last : Paused
   pub run : HasRun settings last
-  pub limit : IfSome settings.connections (λ limit. last.progress.connections ≤ limit)
+  pub limit : IfSome settings.options.connections (λ limit. last.progress.connections ≤ limit)
   pub history : ShareHistories (λ (sights : Sights). sights) last.shared.gates (last.progress.seen ∷ []) outcome.tallies.tallies.items outcome.tallies.count_all
   pub positions : AllTellIn history.histories run.first run.path last run.goes
   pub totals : outcome.totals ≡ last.progress.totals

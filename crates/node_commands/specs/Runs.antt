@@ -12,7 +12,7 @@ use Rattle.worker_pool.specs.declared.closed.Closed.{Closed}
 use Rattle.worker_pool.specs.declared.job.Job.{Job}
 use Rattle.worker_pool.specs.Run.{ServesAll}
 use Rattle.session_pool.specs.declared.end_sink.SessionEnd.{SessionEnd}
-use Rattle.session_pool.specs.declared.served.Served.{Served}
+use Rattle.session_pool.specs.declared.served_sessions.ServedSessions.{ServedSessions}
 use Rattle.session_pool.specs.Leaving.{IsEndOf}
 use Rattle.session_pool.specs.Resuming.{RunStepIn}
 use Rattle.session_pool.specs.Telling.{ToldSession, TellsAll, with_passes}
@@ -23,7 +23,7 @@ use Rattle.socket_streams.specs.Arriving.{IsNewConnection}
 use Rattle.socket_streams.specs.Sessions.{begun_by}
 use Rattle.node_commands.specs.declared.serving.Settings.{Settings}
 use Rattle.node_commands.specs.declared.until.ServedUntil.{ServedUntil}
-use Rattle.node_commands.specs.declared.until.UntilSettings.{UntilSettings}
+use Rattle.node_commands.specs.declared.options.ServerSettings.{ServerSettings}
 
 -- the gates of a new run of this number, on this ring and with this budget of its sweeps, of which no partition is diverted
 pub record IsNewRun (ring run sweep : ℕ) (gates : Gates) : Type 0 where
@@ -64,7 +64,7 @@ IsAtPositions histories gates one =
 -- Connections that were accepted were served over these gates, each to its end, but those that were closed for want of memory. What was written to each is
 -- the output for some input. There is one history of the primary of each partition: each reply of each connection at it is at a position of that, and
 -- the primary's tally is of all of it.
-pub record AreTold (gates : Gates) (served : Served RequestHalf ReplyHalf ToldConnections) (tallies : RunTallies) (connections closed : ℕ) : Type 0 where
+pub record AreTold (gates : Gates) (served : ServedSessions RequestHalf ReplyHalf ToldConnections) (tallies : RunTallies) (connections closed : ℕ) : Type 0 where
   pub jobs : List (Job RequestHalf ReplyHalf)
   pub new : Every (IsNewConnection gates) jobs
   pub unused : Sights
@@ -78,13 +78,13 @@ pub record AreTold (gates : Gates) (served : Served RequestHalf ReplyHalf ToldCo
   pub counted : connections ≡ served.accepted + closed
 
 -- they were, over the gates of a new run by these settings
-pub record IsServedUntil {T : Type 0} (settings : UntilSettings) (outcome : ServedUntil T) : Type 0 where
+pub record IsServedUntil {T : Type 0} (settings : ServerSettings) (outcome : ServedUntil T) : Type 0 where
   pub gates : Gates
-  pub of_run : IsNewRun settings.ring settings.run settings.sweep gates
+  pub of_run : IsNewRun settings.ring settings.options.run settings.options.sweep gates
   pub served : AreTold gates outcome.served outcome.tallies outcome.connections outcome.closed
 
 -- these connections with tallies of one history of each vnode, of which these passes have seen a beginning
-pub record IsTallied {T : Type 0} (gates : Gates) (served : Served RequestHalf ReplyHalf ToldConnections) (connections closed : ℕ) (seen : Sights) (outcome : ServedUntil T) : Type 0 where
+pub record IsTallied {T : Type 0} (gates : Gates) (served : ServedSessions RequestHalf ReplyHalf ToldConnections) (connections closed : ℕ) (seen : Sights) (outcome : ServedUntil T) : Type 0 where
   pub served_is : outcome.served ≡ served
   pub connections_are : outcome.connections ≡ connections
   pub closed_are : outcome.closed ≡ closed

@@ -11,7 +11,7 @@ use gate_node::Shared;
 use handoff::{Handoff, HandoffFault};
 use handoff_tracks::HandoffTracks;
 use log::{Log, info};
-use socket_streams::Stop;
+use socket_streams::RunSignals;
 use std::alloc::Global;
 use std::io::{Read, Write};
 use std::rt::Clock;
@@ -100,7 +100,7 @@ fn finish_return<X: Wait>(
 }
 
 /// Waits until the workers have what they keep back, or serving has ended.
-fn wait_for_workers<X: Clock + Wait>(rt: &X, stop: &Stop, has_ended: &AtomicBool) {
+fn wait_for_workers<X: Clock + Wait>(rt: &X, stop: &RunSignals, has_ended: &AtomicBool) {
     for _ in rt.forever() {
         if stop.is_ready() || has_ended.load(Ordering::SeqCst) {
             return;
@@ -112,7 +112,12 @@ fn wait_for_workers<X: Clock + Wait>(rt: &X, stop: &Stop, has_ended: &AtomicBool
 
 impl<C: Read + Write> Console<C> {
     /// Has the workers paused for this, and returns it; refuses it where too little memory is kept back by which they could be started again.
-    fn pause_for<X: Clock + Log>(&mut self, rt: &X, stop: &Stop, asked: Asked) -> Option<Asked> {
+    fn pause_for<X: Clock + Log>(
+        &mut self,
+        rt: &X,
+        stop: &RunSignals,
+        asked: Asked,
+    ) -> Option<Asked> {
         if stop.pause_if_kept() {
             return Some(asked);
         }
@@ -126,7 +131,7 @@ impl<C: Read + Write> Console<C> {
         rt: &X,
         alloc: Global,
         shared: &Shared,
-        stop: &Stop,
+        stop: &RunSignals,
         tracks: &mut HandoffTracks,
         command: OperatorCommand,
         partition: u16,
@@ -160,7 +165,7 @@ impl<C: Read + Write> Console<C> {
         rt: &X,
         alloc: Global,
         shared: &Shared,
-        stop: &Stop,
+        stop: &RunSignals,
         tracks: &mut HandoffTracks,
         command: OperatorCommand,
     ) -> Option<Asked>
@@ -205,7 +210,7 @@ impl<C: Read + Write> Console<C> {
         rt: &X,
         alloc: Global,
         shared: &Shared,
-        stop: &Stop,
+        stop: &RunSignals,
         tracks: &mut HandoffTracks,
     ) -> Option<Asked>
         requires { HaveTracks (handoff_of shared.now) tracks.old }
@@ -227,7 +232,7 @@ impl<C: Read + Write> Console<C> {
         rt: &X,
         alloc: Global,
         shared: &Shared,
-        stop: &Stop,
+        stop: &RunSignals,
         has_ended: &AtomicBool,
         tracks: &mut HandoffTracks,
     ) -> Asked

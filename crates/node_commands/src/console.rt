@@ -4,14 +4,14 @@ ghost use Rattle.std.specs.Prelude.{IfSome};
 ghost use Rattle.node_commands.specs.Console.{IsStored};
 
 use crate::lines::write_open_totals;
-use crate::stats::{Stats, write_stats};
-use crate::until::UntilSettings;
+use crate::options::ServerSettings;
+use crate::stats::{Stats, refused_puts, write_stats};
 use control_text::{
     DivertedPartitions, OperatorAnswer, OperatorCommand, OperatorRefusal, mistake_in, read_command,
     write_help,
 };
 use handoff::Handoff;
-use key_counts::{KeyCounts, count_partitions, total_of};
+use key_counts::{KeyCounts, count_all};
 use log::{Log, info, warn};
 use socket_streams::ServerCounts;
 use stats_book::Totals;
@@ -25,9 +25,6 @@ use std::time::{Duration, Instant};
 
 /// How many bytes of a line are kept: more than a command has. The refusal of a longer one names this number.
 const MAX_LINE: usize = 64;
-
-/// How many bytes are kept back for a count of the stored keys: more than it takes on the largest ring.
-const SPARE: usize = 524_288;
 
 /// The pause, in milliseconds, before a channel is read again that had nothing yet.
 const PAUSE_MILLIS: u64 = 10;
@@ -52,12 +49,13 @@ pub(crate) enum Heard {
     Over,
 }
 
-/// How much the vnodes of all partitions store, each at a moment of its own. None where memory is refused to the count.
+/// How much the vnodes of all partitions store, each at a moment of its own. None where memory is refused to the count,
+/// which needs none (`key_counts`).
 fn count_stored<X: Wait>(rt: &X, alloc: Global, handoff: &Handoff) -> Option<KeyCounts>
     ensures { IfSome result (IsStored handoff.now) }
 {
-    match count_partitions(rt, alloc, handoff) {
-        Ok(partitions) => Some(total_of(partitions.as_slice())),
+    match count_all(rt, alloc, handoff) {
+        Ok(counts) => Some(counts),
         Err(_) => None,
     }
 }
@@ -100,8 +98,6 @@ pub(crate) struct Console<C> {
     started: Option<Instant>,
     /// The run's number.
     run: u32,
-    /// What a count of the stored keys takes that finds no other memory. Nothing is ever written there.
-    spare: Vec<u8>,
 }
 
 impl<C: Drop> Console<C> {
@@ -110,7 +106,7 @@ impl<C: Drop> Console<C> {
         rt: &X,
         alloc: Global,
         operator: C,
-        settings: &UntilSettings,
+        settings: &ServerSettings,
     ) -> Option<Console<C>> {
         Some(Console {
             operator,
@@ -118,10 +114,9 @@ impl<C: Drop> Console<C> {
             length: 0,
             kept: None,
             diverted: DivertedPartitions::none(alloc).ok()?,
-            counts: ServerCounts::new(alloc, settings.workers).ok()?,
+            counts: ServerCounts::new(alloc, settings.options.workers).ok()?,
             started: Instant::now(rt).ok(),
-            run: settings.run,
-            spare: Vec::with_capacity(alloc, SPARE).ok()?,
+            run: settings.options.run,
         })
     }
 }
@@ -148,25 +143,6 @@ impl<C: Read + Write> Console<C> {
         self.kept = Some(told);
     }
 
-    /// How much the vnodes of all partitions store, each at a moment of its own: counted once more where memory is refused, once what is kept back for
-    /// that is given up. None where it is refused then too.
-    fn count_stored<X: Wait>(
-        &mut self,
-        rt: &X,
-        alloc: Global,
-        handoff: &Handoff,
-    ) -> Option<KeyCounts>
-        ensures { IfSome result (IsStored handoff.now) }
-    {
-        if let Some(counts) = count_stored(rt, alloc, handoff) {
-            return Some(counts);
-        }
-        self.spare = Vec::new(alloc);
-        let counts = count_stored(rt, alloc, handoff);
-        let _is_kept = self.spare.reserve(SPARE);
-        counts
-    }
-
     /// Tells what was kept, if anything was, as far as that can be written: beside totals how much is stored by now.
     pub(crate) fn tell_kept<X: Clock + Log + Wait>(
         &mut self,
@@ -177,7 +153,7 @@ impl<C: Read + Write> Console<C> {
         match self.kept {
             Some(Told::Answer(answer)) => self.answer(rt, answer),
             Some(Told::Totals(totals, connections)) => {
-                let counts = self.count_stored(rt, alloc, handoff);
+                let counts = count_stored(rt, alloc, handoff);
                 self.tell_totals(totals, connections, counts);
             }
             None => {}
@@ -231,9 +207,12 @@ impl<C: Read + Write> Console<C> {
         }
     }
 
-    /// Tells the totals at a pause, how many connections were accepted by then, and how much is stored, as far as that can be written.
+    /// Tells the totals at a pause, how many connections were accepted by then, how much is stored, and how many puts were refused for want of memory by now, as
+    /// far as that can be written.
     fn tell_totals(&mut self, totals: Totals, connections: u64, counts: Option<KeyCounts>) {
-        if write_open_totals(&mut self.operator, totals, connections, counts).is_ok() {
+        let refused = refused_puts(&self.counts);
+        let written = write_open_totals(&mut self.operator, totals, connections, counts, refused);
+        if written.is_ok() {
             let _unheard = self.operator.flush();
         }
     }

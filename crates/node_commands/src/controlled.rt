@@ -15,9 +15,9 @@ use crate::fault::ServeFault;
 use crate::gates::new_shared;
 use crate::hearing::Hearing;
 use crate::lines::report;
+use crate::options::ServerSettings;
 use crate::period::{Period, serve_on};
 use crate::progress::Paused;
-use crate::until::UntilSettings;
 use control_text::{OperatorAnswer, OperatorRefusal};
 use gate_node::{RunTallies, tallies_of};
 use handoff_tracks::{HandoffTrack, HandoffTracks};
@@ -58,7 +58,7 @@ fn is_end(asked: Asked) -> bool {
 fn divert(
     alloc: Global,
     paused: Paused,
-    settings: &UntilSettings,
+    settings: &ServerSettings,
     tracks: &mut HandoffTracks,
     partition: u16,
 ) -> (Paused, OperatorAnswer)
@@ -74,7 +74,7 @@ fn divert(
             OperatorAnswer::Refused(OperatorRefusal::NoPartition(partition)),
         );
     }
-    let (paused, diverted) = paused.divert(alloc, partition, settings.sweep);
+    let (paused, diverted) = paused.divert(alloc, partition, settings.options.sweep);
     match diverted {
         Ok(()) => {
             tracks.begin(partition);
@@ -116,7 +116,7 @@ fn totals_of(paused: &Paused) -> Told
 fn heed<C: Read + Write>(
     alloc: Global,
     paused: Paused,
-    settings: &UntilSettings,
+    settings: &ServerSettings,
     hearing: &mut Hearing<C>,
 ) -> Paused
     requires serves { CanServe settings.now paused }
@@ -144,7 +144,7 @@ fn serve_periods<T, C, W>(
     alloc: Global,
     listener: &TcpListener,
     paused: Paused,
-    settings: &UntilSettings,
+    settings: &ServerSettings,
     console: Console<C>,
     tracks: HandoffTracks,
     writer: &mut W,
@@ -153,7 +153,7 @@ where
     T: Log + Clock + Net + Threads + Wait + Sync,
     C: Read + Write + Send + Drop,
     W: Write,
-    requires workers { (1 ≤ settings.now.workers) × (settings.now.workers ≤ 64) }
+    requires workers { (1 ≤ settings.now.options.workers) × (settings.now.options.workers ≤ 64) }
     requires begins { CanServe settings.now paused }
     requires tracks { HaveTracks (handoff_of paused.shared) tracks }
     ensures serves { IfOk result (λ left. CanServe settings.now left.0) }
@@ -206,7 +206,7 @@ fn conclude<X: Wait>(
     rt: &X,
     alloc: Global,
     paused: &Paused,
-    settings: &UntilSettings,
+    settings: &ServerSettings,
     tracks: HandoffTracks,
 ) -> Result<Controlled, ServeFault>
     requires serves { CanServe settings.now paused.now }
@@ -237,8 +237,8 @@ fn conclude<X: Wait>(
 /// - `stats`: what was done by now, in numbers that are read without a pause and take no memory.
 /// - `diverted`: which partitions are diverted now, and for how long.
 /// - `totals`: what all sessions have counted, and how many connections were accepted, at one moment. For that the workers are paused. And how many keys,
-///   siblings, dead keys and bytes of values are stored, counted behind the pause, while calls go on, each partition at a moment of its own; nothing of that
-///   where memory is refused to the count.
+///   siblings, dead keys and bytes of values are stored, counted behind the pause, while calls go on, each partition at a moment of its own, by a count that
+///   needs no memory; and how many puts were refused for want of memory, as `stats` tells it then.
 /// - `divert P`: the calls of partition P are for a fallback from then on. For that the workers are paused. Refused where there is no such partition, where it
 ///   is diverted, and where memory is refused.
 /// - `copy P B`: at most B keys of its fallback are copied back to its primary, while calls go on.
@@ -263,7 +263,7 @@ pub fn serve_controlled<T, C, W>(
     rt: &T,
     alloc: Global,
     listener: TcpListener,
-    settings: &UntilSettings,
+    settings: &ServerSettings,
     operator: C,
     writer: &mut W,
 ) -> Result<Controlled, ServeFault>
@@ -271,8 +271,6 @@ where
     T: Log + Clock + Net + Threads + Wait + Sync,
     C: Read + Write + Send + Drop,
     W: Write,
-    requires workers { (1 ≤ settings.now.workers) × (settings.now.workers ≤ 64) }
-    requires run { 1 ≤ settings.now.run }
 
     // From a new run on the workers served or a partition was diverted, one behind another. In each period every session that rested went on, and each
     // connection that came had one begun; each of these ended, and its sink was told so, or rests, or was refused, once. What it wrote is what a session
@@ -282,7 +280,12 @@ where
     // again (`known_hand_offs_join`).
     ensures { IfOk result (IsControlled settings.now) }
 {
-    let Some(shared) = new_shared(alloc, settings.ring, settings.run, settings.sweep) else {
+    let Some(shared) = new_shared(
+        alloc,
+        settings.ring,
+        settings.options.run,
+        settings.options.sweep,
+    ) else {
         return Err(ServeFault::NoMemory);
     };
     let Some(paused) = Paused::new(alloc, shared) else {

@@ -8,7 +8,7 @@ use crate::console::Console;
 use gate_node::Shared;
 use handoff_tracks::HandoffTracks;
 use log::Log;
-use socket_streams::Stop;
+use socket_streams::RunSignals;
 use std::alloc::Global;
 use std::io::{Read, Write};
 use std::rt::Clock;
@@ -48,7 +48,7 @@ pub(crate) fn hear<X, C>(
     shared: &Shared,
     console: Console<C>,
     tracks: HandoffTracks,
-    stop: &Stop,
+    stop: &RunSignals,
     has_ended: &AtomicBool,
 ) -> Hearing<C>
 where

@@ -6,8 +6,7 @@
 //! [`serve_on`] so many, whose ends it keeps; [`serve_on_until`] as many as come, until so many
 //! have ended or an input ends; [`serve_controlled`] the same while an operator says on a console
 //! what is to be done: partitions are diverted, copied back and returned while clients go on.
-//! [`serve_as_asked`] and [`serve_as_controlled`] are these two by the options of a command line:
-//! the program's `serve`.
+//! These two, by one [`ServerSettings`], are the program's `serve`.
 //!
 //! ```text
 //! pipe(alloc, Ring::new(1)?, 1, 0, &mut reader, &mut writer)      // reader: 00 00 00 01 01, a ping
@@ -46,8 +45,7 @@
 //! and of the totals are exact by clauses of what writes them. The address of `serve_on_until` and
 //! `serve_controlled` has no such clause.
 //!
-//! By `pipe`, `serve_on`, `serve_on_until`, `serve_controlled`, `serve_as_asked`,
-//! `serve_as_controlled`.
+//! By `pipe`, `serve_on`, `serve_on_until`, `serve_controlled`.
 //!
 //! # Tested
 //!
@@ -66,7 +64,6 @@
 //! - What is left if the workers of a later period can't be started.
 #![tactic(auto)]
 
-mod asked_serving;
 mod commands;
 mod console;
 mod controlled;
@@ -82,11 +79,10 @@ mod stats;
 mod streams;
 mod until;
 
-pub use asked_serving::{serve_as_asked, serve_as_controlled};
 pub use controlled::{Controlled, serve_controlled};
 pub use fault::ServeFault;
-pub use options::ServingOptions;
+pub use options::{ServerSettings, ServingOptions};
 pub use serving::{MAX_ACCEPT_TRIES, Served, Settings, serve_on};
 pub use socket_streams::{ReplyHalf, RequestHalf, Waiting};
 pub use streams::pipe;
-pub use until::{ServedUntil, UntilSettings, serve_on_until};
+pub use until::{ServedUntil, serve_on_until};

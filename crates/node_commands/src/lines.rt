@@ -1,8 +1,9 @@
 //! The lines that a run of connections writes.
 ghost use Rattle.std.specs.Prelude.{OnOk};
 ghost use Rattle.std.specs.Io.KnownBytes.{Appends};
-ghost use Rattle.node_commands.specs.Lines.{address_line, commands_text, open_line, open_text};
-ghost use Rattle.node_commands.specs.Lines.{others_text, stored_text, totals_line};
+ghost use Rattle.node_commands.specs.Lines.{address_line, commands_text, held_text, open_line};
+ghost use Rattle.node_commands.specs.Lines.{open_text, others_text, refused_text, stored_text};
+ghost use Rattle.node_commands.specs.Lines.{totals_line};
 
 use key_counts::KeyCounts;
 use log::{Log, warn};
@@ -80,13 +81,13 @@ fn write_open<W: Write>(writer: &mut W, totals: Totals, connections: u64) -> io:
     )
 }
 
-/// Writes how much is stored, where it is known, and ends the line.
+/// Writes how much is stored, where it is known.
 fn write_stored<W: Write>(writer: &mut W, counts: Option<KeyCounts>) -> io::Result<()>
     ensures { OnOk result
         (Appends (W.contents writer.old) (W.contents writer.new) (stored_text counts)) }
 {
     let Some(counts) = counts else {
-        return writeln!(writer);
+        return Ok(());
     };
     let KeyCounts {
         keys,
@@ -94,25 +95,47 @@ fn write_stored<W: Write>(writer: &mut W, counts: Option<KeyCounts>) -> io::Resu
         dead_keys,
         value_bytes,
     } = counts;
-    writeln!(
+    write!(
         writer,
         " keys {keys} siblings {siblings} dead {dead_keys} bytes {value_bytes}"
     )
 }
 
-/// Writes the totals, how many connections were accepted, and how much is stored where it is known, in a line.
+/// Writes how many puts were refused for want of memory, to the line's end.
+fn write_refused<W: Write>(writer: &mut W, puts: u64) -> io::Result<()>
+    ensures { OnOk result
+        (Appends (W.contents writer.old) (W.contents writer.new) (refused_text puts)) }
+{
+    writeln!(writer, " puts_refused {puts}")
+}
+
+/// Writes how much is stored, where it is known, and how many puts were refused for want of memory, to the line's end.
+fn write_held<W: Write>(
+    writer: &mut W,
+    counts: Option<KeyCounts>,
+    refused_puts: u64,
+) -> io::Result<()>
+    ensures { OnOk result (Appends (W.contents writer.old) (W.contents writer.new)
+        (held_text counts refused_puts)) }
+{
+    write_stored(writer, counts)?;
+    write_refused(writer, refused_puts)
+}
+
+/// Writes the totals, how many connections were accepted, how much is stored where it is known, and how many puts were refused for want of memory, in a line.
 pub(crate) fn write_open_totals<W: Write>(
     writer: &mut W,
     totals: Totals,
     connections: u64,
     counts: Option<KeyCounts>,
+    refused_puts: u64,
 ) -> io::Result<()>
     ensures { OnOk result (Appends (W.contents writer.old) (W.contents writer.new)
-        (open_line totals connections counts)) }
+        (open_line totals connections counts refused_puts)) }
 {
     write_commands(writer, totals)?;
     write_open(writer, totals, connections)?;
-    write_stored(writer, counts)
+    write_held(writer, counts, refused_puts)
 }
 
 /// Logs where some vnode's tally counts other than its history has entries, since then the laws of the register don't speak of this run; writes the

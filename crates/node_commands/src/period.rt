@@ -9,16 +9,16 @@ ghost use Rattle.handoff_tracks.specs.Tracks.{HaveTracks};
 use crate::console::Console;
 use crate::fault::{ServeFault, setup_fault};
 use crate::hearing::{Hearing, KnowsTracks, hear};
+use crate::options::ServerSettings;
 use crate::progress::{Paused, Progress};
 use crate::serving::serve_fault;
-use crate::until::UntilSettings;
 use gate_node::{Open, Passes, Shared};
 use handoff_tracks::HandoffTracks;
 use log::Log;
-use session_pool::{Served, serve};
+use session_pool::{ServedSessions, serve};
 use socket_streams::{
-    Arrivals, Limits, LogSink, ReplyHalf, RequestHalf, RunWaits, Sessions, Stop, new_run_waits,
-    new_seats,
+    Arrivals, Limits, LogSink, ReplyHalf, RequestHalf, RunSignals, RunWaits, Sessions,
+    new_run_waits, new_serving_setups,
 };
 use stats_book::Totals;
 use std::alloc::Global;
@@ -53,14 +53,14 @@ pub struct Before {
 /// What the workers have come to behind a period, in which so many connections were accepted and so many closed.
 fn lay_down<T>(
     before: Before,
-    served: Served<RequestHalf, ReplyHalf, LogSink<'_, T>>,
+    served: ServedSessions<RequestHalf, ReplyHalf, LogSink<'_, T>>,
     connections: u64,
     closed: u64,
     seen: Passes,
 ) -> Result<Progress, ServeFault>
     ensures { IfOk result (AddsUp before served.entry connections closed seen) }
 {
-    let Served {
+    let ServedSessions {
         totals,
         accepted: _,
         refused: _,
@@ -94,8 +94,8 @@ fn serve_period<T, W>(
     listener: &TcpListener,
     shared: &Shared,
     progress: Progress,
-    settings: &UntilSettings,
-    stop: &Stop,
+    settings: &ServerSettings,
+    stop: &RunSignals,
     waits: RunWaits,
     announcing: Option<&mut W>,
 ) -> Result<Progress, ServeFault>
@@ -104,14 +104,15 @@ where
     W: Write,
     requires workers { (1 ≤ length waits.workers.items) × (length waits.workers.items ≤ 64) }
     requires ready { IsReady shared.now progress }
-    requires limit { IfSome settings.now.connections (λ limit. progress.connections ≤ limit) }
+    requires limit { IfSome settings.now.options.connections (λ limit. progress.connections ≤ limit) }
     ensures served { IfOk result (HasServed shared.now progress) }
     ensures ready { IfOk result (IsReady shared.now) }
     ensures limit { IfOk result (λ later.
-        IfSome settings.now.connections (λ limit. later.connections ≤ limit)) }
+        IfSome settings.now.options.connections (λ limit. later.connections ≤ limit)) }
 {
     let RunWaits { accepting, workers } = waits;
-    let Ok(seats) = new_seats(rt, alloc, stop, workers, settings.waiting) else {
+    let Ok(serving_setups) = new_serving_setups(rt, alloc, stop, workers, settings.options.waiting)
+    else {
         return Err(ServeFault::NoMemory);
     };
     let Progress {
@@ -122,7 +123,7 @@ where
         closed,
     } = progress;
     let limits = Limits {
-        connections: left_of(settings.connections, connections),
+        connections: left_of(settings.options.connections, connections),
         counts_refused: true,
         can_stop: true,
         keeps_back: true,
@@ -143,7 +144,7 @@ where
         alloc,
         shared,
         &mut sessions,
-        seats,
+        serving_setups,
         &Open,
         stop,
         &mut seen,
@@ -170,10 +171,10 @@ fn serve_and_hear<T, C, W>(
     listener: &TcpListener,
     shared: &Shared,
     progress: Progress,
-    settings: &UntilSettings,
+    settings: &ServerSettings,
     console: Console<C>,
     tracks: HandoffTracks,
-    stop: Stop,
+    stop: RunSignals,
     waits: RunWaits,
     announcing: Option<&mut W>,
 ) -> Result<(Progress, Hearing<C>), ServeFault>
@@ -183,12 +184,12 @@ where
     W: Write,
     requires workers { (1 ≤ length waits.workers.items) × (length waits.workers.items ≤ 64) }
     requires ready { IsReady shared.now progress }
-    requires limit { IfSome settings.now.connections (λ limit. progress.connections ≤ limit) }
+    requires limit { IfSome settings.now.options.connections (λ limit. progress.connections ≤ limit) }
     requires tracks { HaveTracks (handoff_of shared.now) tracks }
     ensures served { IfOk result (λ came. HasServed shared.now progress came.0) }
     ensures ready { IfOk result (λ came. IsReady shared.now came.0) }
     ensures limit { IfOk result (λ came.
-        IfSome settings.now.connections (λ limit. came.0.connections ≤ limit)) }
+        IfSome settings.now.options.connections (λ limit. came.0.connections ≤ limit)) }
     ensures tracks { IfOk result (λ came. HaveTracks (handoff_of shared.now) came.1.tracks) }
 {
     let has_ended = AtomicBool::new(false);
@@ -199,13 +200,13 @@ where
             requires workers { (1 ≤ length waits.workers.items)
                 × (length waits.workers.items ≤ 64) }
             requires ready { IsReady shared.now progress }
-            requires limit { IfSome settings.now.connections
+            requires limit { IfSome settings.now.options.connections
                 (λ limit. progress.connections ≤ limit) }
             requires tracks { HaveTracks (handoff_of shared.now) tracks }
             ensures served { IfOk result (λ came. HasServed shared.entry.now progress came.0) }
             ensures ready { IfOk result (λ came. IsReady shared.entry.now came.0) }
             ensures limit { IfOk result (λ came.
-                IfSome settings.entry.now.connections (λ limit. came.0.connections ≤ limit)) }
+                IfSome settings.entry.now.options.connections (λ limit. came.0.connections ≤ limit)) }
             ensures tracks { IfOk result (λ came.
                 HaveTracks (handoff_of shared.entry.now) came.1.tracks) }
         {
@@ -242,7 +243,7 @@ pub(crate) fn serve_on<T, C, W>(
     alloc: Global,
     listener: &TcpListener,
     paused: Paused,
-    settings: &UntilSettings,
+    settings: &ServerSettings,
     console: Console<C>,
     tracks: HandoffTracks,
     announcing: Option<&mut W>,
@@ -251,9 +252,9 @@ where
     T: Log + Clock + Net + Threads + Wait + Sync,
     C: Read + Write + Send + Drop,
     W: Write,
-    requires workers { (1 ≤ settings.now.workers) × (settings.now.workers ≤ 64) }
+    requires workers { (1 ≤ settings.now.options.workers) × (settings.now.options.workers ≤ 64) }
     requires ready { IsReady paused.shared paused.progress }
-    requires limit { IfSome settings.now.connections
+    requires limit { IfSome settings.now.options.connections
         (λ limit. paused.progress.connections ≤ limit) }
     requires tracks { HaveTracks (handoff_of paused.shared) tracks }
     ensures shared { IfOk result (λ period. period.paused.shared ≡ paused.shared) }
@@ -261,12 +262,12 @@ where
         HasServed paused.shared paused.progress period.paused.progress) }
     ensures ready { IfOk result (λ period.
         IsReady period.paused.shared period.paused.progress) }
-    ensures limit { IfOk result (λ period. IfSome settings.now.connections
+    ensures limit { IfOk result (λ period. IfSome settings.now.options.connections
         (λ limit. period.paused.progress.connections ≤ limit)) }
     ensures tracks { IfOk result (λ period.
         HaveTracks (handoff_of period.paused.shared) period.hearing.tracks) }
 {
-    let (waits, stop) = match new_run_waits(rt, alloc, settings.workers, console.counts()) {
+    let (waits, stop) = match new_run_waits(rt, alloc, settings.options.workers, console.counts()) {
         Ok(made) => made,
         Err(error) => return Err(setup_fault(&error)),
     };

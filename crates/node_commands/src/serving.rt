@@ -8,7 +8,7 @@ use crate::lines::{conclude, write_address};
 use gate_node::Ring;
 use log::{Log, info, warn};
 use socket_streams::{
-    Arrivals, Limits, ReplyHalf, RequestHalf, RunWaits, ServerCounts, Stop, new_posts,
+    Arrivals, Limits, ReplyHalf, RequestHalf, RunSignals, RunWaits, ServerCounts, new_posts,
     new_run_waits,
 };
 use std::alloc::Global;
@@ -78,7 +78,7 @@ fn serve_over<T, L>(
     listener: &L,
     connections: u16,
     workers: u16,
-    stop: &Stop,
+    stop: &RunSignals,
     waits: RunWaits,
 ) -> Result<Served, ServeFault>
 where

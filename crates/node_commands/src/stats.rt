@@ -83,7 +83,7 @@ fn errors(counts: &ServerCounts, text: Text) -> u64 {
 }
 
 /// How many puts were refused for want of memory.
-fn refused_puts(counts: &ServerCounts) -> u64 {
+pub(crate) fn refused_puts(counts: &ServerCounts) -> u64 {
     let mut sum: u64 = 0;
     for worker in counts.workers() {
         sum = sum.saturating_add(worker.sessions().answers().refused_puts());

@@ -7,13 +7,14 @@ ghost use Rattle.node_commands.specs.Runs.{AreTold, IsServedUntil, IsTallied};
 use crate::fault::{ServeFault, setup_fault};
 use crate::gates::new_shared;
 use crate::lines::conclude;
+use crate::options::ServerSettings;
 use crate::serving::serve_fault;
-use gate_node::{Open, Passes, Ring, RunTallies, Shared, tallies_of};
+use gate_node::{Open, Passes, RunTallies, Shared, tallies_of};
 use log::Log;
-use session_pool::{NoPause, Served, serve};
+use session_pool::{NoPause, ServedSessions, serve};
 use socket_streams::{
-    Arrivals, Limits, LogSink, ReplyHalf, RequestHalf, RunWaits, ServerCounts, Sessions, Stop,
-    Waiting, new_run_waits, new_seats,
+    Arrivals, Limits, LogSink, ReplyHalf, RequestHalf, RunSignals, RunWaits, ServerCounts,
+    Sessions, new_run_waits, new_serving_setups,
 };
 use std::alloc::Global;
 use std::io::{Read, Write};
@@ -23,28 +24,11 @@ use std::sync::Wait;
 use std::thread::{Scope, Threads};
 use std::{slice, thread};
 
-/// How a server for as many clients as come serves.
-#[derive(Clone, Copy)]
-pub struct UntilSettings {
-    /// After how many connections no more are accepted, if there is such a number.
-    pub connections: Option<u64>,
-    /// How many threads serve, each many connections: from 1 to 64.
-    pub workers: u16,
-    /// The partitions of the keys.
-    pub ring: Ring,
-    /// The run's number, from 1 on.
-    pub run: u32,
-    /// How many dead keys are forgotten after an answer, at most.
-    pub sweep: u32,
-    /// How the threads wait for their connections.
-    pub waiting: Waiting,
-}
-
 /// What came of a server for as many clients as come.
 #[derive(Drop)]
 pub struct ServedUntil<'a, T> {
     /// What the workers did with the connections that came to them, and what all that comes to.
-    pub served: Served<RequestHalf, ReplyHalf, LogSink<'a, T>>,
+    pub served: ServedSessions<RequestHalf, ReplyHalf, LogSink<'a, T>>,
     /// The tally of each vnode behind the last of them, of all that its connections saw of it, in the order of the partitions.
     pub tallies: RunTallies,
     /// How many connections were accepted.
@@ -53,11 +37,11 @@ pub struct ServedUntil<'a, T> {
     pub closed: u64,
 }
 
-/// Starts a thread that raises the stop at the end of an input, if there is one.
+/// Starts a thread that raises the run's signals at the end of an input, if there is one.
 fn start_reader<'s, X, T, I>(
     scope: &'s Scope<'s, X>,
     rt: &'s T,
-    stop: &'s Stop,
+    stop: &'s RunSignals,
     until: Option<I>,
 ) -> Result<(), ServeFault>
 where
@@ -78,7 +62,7 @@ fn tally<'a, T>(
     rt: &'a T,
     alloc: Global,
     shared: &Shared,
-    served: Served<RequestHalf, ReplyHalf, LogSink<'a, T>>,
+    served: ServedSessions<RequestHalf, ReplyHalf, LogSink<'a, T>>,
     connections: u64,
     closed: u64,
     seen: &Passes,
@@ -105,8 +89,8 @@ fn serve_over<'a, T, W>(
     alloc: Global,
     listener: &TcpListener,
     shared: &Shared,
-    settings: UntilSettings,
-    stop: &Stop,
+    settings: ServerSettings,
+    stop: &RunSignals,
     waits: RunWaits,
     can_stop: bool,
     writer: &mut W,
@@ -118,16 +102,17 @@ where
     ensures served { IfOk result (λ outcome. AreTold shared.now outcome.served
         outcome.tallies outcome.connections outcome.closed) }
     ensures most { IfOk result (λ outcome.
-        IfSome settings.connections (λ limit. outcome.connections ≤ limit)) }
+        IfSome settings.options.connections (λ limit. outcome.connections ≤ limit)) }
     ensures all { can_stop ≡ false → IfOk result (λ outcome.
-        settings.connections ≡ Some outcome.connections) }
+        settings.options.connections ≡ Some outcome.connections) }
 {
     let RunWaits { accepting, workers } = waits;
-    let Ok(seats) = new_seats(rt, alloc, stop, workers, settings.waiting) else {
+    let Ok(serving_setups) = new_serving_setups(rt, alloc, stop, workers, settings.options.waiting)
+    else {
         return Err(ServeFault::NoMemory);
     };
     let limits = Limits {
-        connections: settings.connections,
+        connections: settings.options.connections,
         counts_refused: true,
         can_stop,
         keeps_back: false,
@@ -146,7 +131,7 @@ where
         alloc,
         shared,
         &mut sessions,
-        seats,
+        serving_setups,
         &Open,
         &NoPause,
         &mut seen,
@@ -165,7 +150,7 @@ fn serve_until_end<'a, T, I, W>(
     alloc: Global,
     listener: &TcpListener,
     shared: &Shared,
-    settings: UntilSettings,
+    settings: ServerSettings,
     until: Option<I>,
     writer: &mut W,
 ) -> Result<ServedUntil<'a, T>, ServeFault>
@@ -173,18 +158,18 @@ where
     T: Log + Clock + Net + Threads + Wait + Sync,
     I: Read + Send + Drop,
     W: Write,
-    requires workers { (1 ≤ settings.workers) × (settings.workers ≤ 64) }
+    requires workers { (1 ≤ settings.options.workers) × (settings.options.workers ≤ 64) }
     ensures served { IfOk result (λ outcome. AreTold shared.now outcome.served
         outcome.tallies outcome.connections outcome.closed) }
     ensures most { IfOk result (λ outcome.
-        IfSome settings.connections (λ limit. outcome.connections ≤ limit)) }
+        IfSome settings.options.connections (λ limit. outcome.connections ≤ limit)) }
     ensures all { until ≡ None → IfOk result (λ outcome.
-        settings.connections ≡ Some outcome.connections) }
+        settings.options.connections ≡ Some outcome.connections) }
 {
-    let Ok(counts) = ServerCounts::new(alloc, settings.workers) else {
+    let Ok(counts) = ServerCounts::new(alloc, settings.options.workers) else {
         return Err(ServeFault::NoMemory);
     };
-    let (waits, stop) = match new_run_waits(rt, alloc, settings.workers, &counts) {
+    let (waits, stop) = match new_run_waits(rt, alloc, settings.options.workers, &counts) {
         Ok(made) => made,
         Err(error) => return Err(setup_fault(&error)),
     };
@@ -199,9 +184,9 @@ where
             ensures served { IfOk result (λ outcome. AreTold shared.entry.now outcome.served
                 outcome.tallies outcome.connections outcome.closed) }
             ensures most { IfOk result (λ outcome.
-                IfSome settings.connections (λ limit. outcome.connections ≤ limit)) }
+                IfSome settings.options.connections (λ limit. outcome.connections ≤ limit)) }
             ensures all { until ≡ None → IfOk result (λ outcome.
-                settings.connections ≡ Some outcome.connections) }
+                settings.options.connections ≡ Some outcome.connections) }
         {
             start_reader(scope, rt, &stop, until)?;
             let served = serve_over(
@@ -230,7 +215,7 @@ pub fn serve_on_until<'a, T, W, I>(
     rt: &'a T,
     alloc: Global,
     listener: TcpListener,
-    settings: &UntilSettings,
+    settings: &ServerSettings,
     until: Option<I>,
     writer: &mut W,
 ) -> Result<ServedUntil<'a, T>, ServeFault>
@@ -238,8 +223,6 @@ where
     T: Log + Clock + Net + Threads + Wait + Sync,
     W: Write,
     I: Read + Send + Drop,
-    requires workers { (1 ≤ settings.now.workers) × (settings.now.workers ≤ 64) }
-    requires run { 1 ≤ settings.now.run }
 
     // Each connection that came to a worker was served over the gates of a new run, in one history of each vnode, and its end was told the
     // worker's sink, once, or it was refused there for want of memory; the tallies are those of the vnodes at the ends of these histories, and the
@@ -249,11 +232,16 @@ where
 
     // No more connections were accepted than were to be, and just as many where no input could end serving before.
     ensures most { IfOk result (λ outcome.
-        IfSome settings.now.connections (λ limit. outcome.connections ≤ limit)) }
+        IfSome settings.now.options.connections (λ limit. outcome.connections ≤ limit)) }
     ensures all { until ≡ None → IfOk result (λ outcome.
-        settings.now.connections ≡ Some outcome.connections) }
+        settings.now.options.connections ≡ Some outcome.connections) }
 {
-    let Some(shared) = new_shared(alloc, settings.ring, settings.run, settings.sweep) else {
+    let Some(shared) = new_shared(
+        alloc,
+        settings.ring,
+        settings.options.run,
+        settings.options.sweep,
+    ) else {
         return Err(ServeFault::NoMemory);
     };
     let outcome = serve_until_end(

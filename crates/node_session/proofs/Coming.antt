@@ -13,13 +13,13 @@ use Rattle.node_session.specs.Session.{Given, Stops, MadeReads}
 use Rattle.node_session.specs.Sending.{Stands}
 use Rattle.node_session.specs.Nexts.{IsNextAnswered, IsBadNext, IsLost}
 use Rattle.node_session.specs.Unsent.{IsFront}
-use Rattle.node_session.specs.Views.{SessionView, CanFollow, IsRead, new_session}
+use Rattle.node_session.specs.Views.{Transcript, CanFollow, IsRead, nothing_read}
 use Rattle.node_session.proofs.SentParts.{sent_none, sent_more, sent_kept, all_sent, sent_short}
 use Rattle.node_session.proofs.Standing.{read_count, stands_none, stands_more, stands_kept, stands_same, cut_reply, cut_error, told_error, lost_reply, all_answered, none_flushed, at_end, unkept, MadeReads-none, MadeReads-piece, MadeReads-interrupted, answered_kept}
-use Rattle.node_session.specs.Courses.{HasRead, IsAnswering, IsIdle, IsSending, IsTelling, IsOverBy, Came, CanWait}
+use Rattle.node_session.specs.Stages.{HasRead, IsAnswering, IsIdle, IsSending, IsTelling, IsOverBy, Came, CanWait}
 use Rattle.node_session.specs.declared.stage.Stage.{Stage}
 use Rattle.node_session.specs.declared.stage.Stage.TheVariants.{Answering, Sending, Telling, Flushing, Reading, Closing, Over}
-use Rattle.node_session.specs.declared.talk.Talk.{Talk}
+use Rattle.node_session.specs.declared.session.Session.{Session}
 
 -- the reader
 pub read_nothing : (u : Option (List ℕ)) (most : ℕ) → most ≤ 4294967296 → HasRead u u [] 0 most
@@ -67,9 +67,9 @@ given u u' input made most Serves p serves =
 counted_on : (replies made most n input k : ℕ) → n ≡ replies → n + k ≤ input → input ≤ 4096 * made → made ≤ most → most ≤ 4294967296 → min (replies + 1) 18446744073709551615 ≡ n + 1
 counted_on replies made most n input k is few bound within most_few = omega (arith, is, few, bound, within, most_few)
 
-module _ {S : Type 0} (Step : S → Request → Reply → S → Type 0) (first now : S) (u u' h h' : Option (List ℕ)) (s : SessionView) (replies made most : ℕ) where
+module _ {S : Type 0} (Step : S → Request → Reply → S → Type 0) (first now : S) (u u' h h' : Option (List ℕ)) (s : Transcript) (replies made most : ℕ) where
   module _ (p : IsAnswering Step first now u u' h h' s replies made most) where
-    module _ (is_read : IsRead s.input s.exchanges s.rest) (now' : S) (t : SessionView) where
+    module _ (is_read : IsRead s.input s.exchanges s.rest) (now' : S) (t : Transcript) where
       pub to_sending : IsNextAnswered Step now now' s t → IsSending Step first now' u u' h h' t replies made most
       to_sending one = record {
         mid = now;
@@ -103,15 +103,15 @@ module _ {S : Type 0} (Step : S → Request → Reply → S → Type 0) (first n
         λ none. absurd none,
       )
 
-    pub to_idle : (now' : S) (t : SessionView) → IsPartial max_request_len s.rest → t ≡ s → now' ≡ now → IsIdle Step first now' u u' h h' t replies made most
+    pub to_idle : (now' : S) (t : Transcript) → IsPartial max_request_len s.rest → t ≡ s → now' ≡ now → IsIdle Step first now' u u' h h' t replies made most
     to_idle now' t partial same stays =
-        subst (λ (x : SessionView). IsIdle Step first now' u u' h h' x replies made most) (sym same)
+        subst (λ (x : Transcript). IsIdle Step first now' u u' h h' x replies made most) (sym same)
         (subst (λ (x : S). IsIdle Step first x u u' h h' s replies made most) (sym stays) (record { answering = p; partial = partial }))
 
   -- the writer takes more, or keeps what it has
   module _ (h'' : Option (List ℕ)) where
     module _ (p : IsSending Step first now u u' h h' s replies made most) where
-      pub sending_more : (t : SessionView) (front : List ℕ) (n : ℕ) → IsFront front s.unsent → n ≤ length front → Appends h' h'' (take n front) → t ≡ record s { unsent = drop n s.unsent } → IsSending Step first now u u' h h'' t replies made most
+      pub sending_more : (t : Transcript) (front : List ℕ) (n : ℕ) → IsFront front s.unsent → n ≤ length front → Appends h' h'' (take n front) → t ≡ record s { unsent = drop n s.unsent } → IsSending Step first now u u' h h'' t replies made most
       sending_more t front n is le wrote e = record {
         mid = p.mid;
         before = p.before;
@@ -133,7 +133,7 @@ module _ {S : Type 0} (Step : S → Request → Reply → S → Type 0) (first n
       )
 
     module _ (p : IsTelling Step first now u u' h h' s replies made most) where
-      pub telling_more : (t : SessionView) (front : List ℕ) (n : ℕ) → IsFront front s.unsent → n ≤ length front → Appends h' h'' (take n front) → t ≡ record s { unsent = drop n s.unsent } → IsTelling Step first now u u' h h'' t replies made most
+      pub telling_more : (t : Transcript) (front : List ℕ) (n : ℕ) → IsFront front s.unsent → n ≤ length front → Appends h' h'' (take n front) → t ≡ record s { unsent = drop n s.unsent } → IsTelling Step first now u u' h h'' t replies made most
       telling_more t front n is le wrote e = record {
         before = p.before;
         whole = p.whole;
@@ -171,8 +171,8 @@ module _ {S : Type 0} (Step : S → Request → Reply → S → Type 0) (first n
       let all = all_sent p.written h' p.whole s p.part empty in
       let b = p.before in
       let x = p.one.exchange in
-      let input : s.input ≡ b.input = ap (λ (v : SessionView). v.input) all.1 ∙ p.one.input in
-      let many : length s.exchanges ≡ length b.exchanges + 1 = ap (λ (v : SessionView). length v.exchanges) all.1 ∙ ap length p.one.exchanges ∙ length-append b.exchanges (x ∷ []) in
+      let input : s.input ≡ b.input = ap (λ (v : Transcript). v.input) all.1 ∙ p.one.input in
+      let many : length s.exchanges ≡ length b.exchanges + 1 = ap (λ (v : Transcript). length v.exchanges) all.1 ∙ ap length p.one.exchanges ∙ length-append b.exchanges (x ∷ []) in
       let few = read_count b.input b.rest b.exchanges p.was_read in
       let on = counted_on replies made most (length b.exchanges) (length b.input) (length b.rest) p.going.counted few p.read.bound p.read.within p.read.few in
       record {
@@ -180,7 +180,7 @@ module _ {S : Type 0} (Step : S → Request → Reply → S → Type 0) (first n
         stands = stands_more Step first p.mid now h p.written h' b p.whole s p.going.sent p.one all.0 all.1 p.stands;
         going = record {
           counted = many ∙ sym (is ∙ on);
-          fault = ap (λ (v : SessionView). v.fault) all.1 ∙ p.one.fault;
+          fault = ap (λ (v : Transcript). v.fault) all.1 ∙ p.one.fault;
           sent = empty;
         };
       }
@@ -236,8 +236,8 @@ module _ {S : Type 0} (Step : S → Request → Reply → S → Type 0) (first n
           λ none. absurd none,
         )
 
-        pub piece_fed : (t : SessionView) → t ≡ record s { input = s.input ++ piece; rest = s.rest ++ piece } → IsAnswering Step first now u u'' h h' t replies (made + count) most
-        piece_fed t e = subst (λ (x : SessionView). IsAnswering Step first now u u'' h h' x replies (made + count) most) (sym e) (record {
+        pub piece_fed : (t : Transcript) → t ≡ record s { input = s.input ++ piece; rest = s.rest ++ piece } → IsAnswering Step first now u u'' h h' t replies (made + count) most
+        piece_fed t e = subst (λ (x : Transcript). IsAnswering Step first now u u'' h h' x replies (made + count) most) (sym e) (record {
           read = read_piece u u' u'' s.input piece made count most more read counts few p.answering.read;
           stands = stands_same Step first now h h' s (record s { input = s.input ++ piece; rest = s.rest ++ piece }) refl p.answering.stands;
           going = record { counted = p.answering.going.counted; fault = p.answering.going.fault; sent = p.answering.going.sent };
@@ -258,16 +258,16 @@ module _ {S : Type 0} (Step : S → Request → Reply → S → Type 0) (first n
       stops_on h'' (NoMemory count) input kept p = answered_kept Step first input h h' h'' count _ kept p
 
 -- a session that has read nothing
-pub begins : {S : Type 0} (Step : S → Request → Reply → S → Type 0) (node : S) (u h : Option (List ℕ)) (most : ℕ) → most ≤ 4294967296 → IsAnswering Step node node u u h h new_session 0 0 most
+pub begins : {S : Type 0} (Step : S → Request → Reply → S → Type 0) (node : S) (u h : Option (List ℕ)) (most : ℕ) → most ≤ 4294967296 → IsAnswering Step node node u u h h nothing_read 0 0 most
 begins Step node u h most few = record {
   read = read_nothing u most few;
-  stands = stands_none Step node h new_session refl;
+  stands = stands_none Step node h nothing_read refl;
   going = record { counted = refl; fault = refl; sent = refl };
 }
 
 -- a session that waits stays as it is, where its streams keep what they have
 module _ {S : Type 0} (Step : S → Request → Reply → S → Type 0) (first : S) (u u' u'' h h' h'' : Option (List ℕ)) (read_keeps : Keeps u' u'') (written_keeps : Keeps h' h'') where
-  sending_left : (now : S) (s : SessionView) (replies made most : ℕ) → IsSending Step first now u u' h h' s replies made most → IsSending Step first now u u'' h h'' s replies made most
+  sending_left : (now : S) (s : Transcript) (replies made most : ℕ) → IsSending Step first now u u' h h' s replies made most → IsSending Step first now u u'' h h'' s replies made most
   sending_left now s replies made most p = record {
     mid = p.mid;
     before = p.before;
@@ -281,7 +281,7 @@ module _ {S : Type 0} (Step : S → Request → Reply → S → Type 0) (first :
     part = sent_kept p.written h' h'' p.whole s written_keeps p.part;
   }
 
-  telling_left : (now : S) (s : SessionView) (replies made most : ℕ) → IsTelling Step first now u u' h h' s replies made most → IsTelling Step first now u u'' h h'' s replies made most
+  telling_left : (now : S) (s : Transcript) (replies made most : ℕ) → IsTelling Step first now u u' h h' s replies made most → IsTelling Step first now u u'' h h'' s replies made most
   telling_left now s replies made most p = record {
     before = p.before;
     whole = p.whole;
@@ -294,7 +294,7 @@ module _ {S : Type 0} (Step : S → Request → Reply → S → Type 0) (first :
     part = sent_kept p.written h' h'' p.whole s written_keeps p.part;
   }
 
-  idle_stays : (now : S) (s : SessionView) (replies made most : ℕ) → IsIdle Step first now u u' h h' s replies made most → IsIdle Step first now u u'' h h'' s replies made most
+  idle_stays : (now : S) (s : Transcript) (replies made most : ℕ) → IsIdle Step first now u u' h h' s replies made most → IsIdle Step first now u u'' h h'' s replies made most
   idle_stays now s replies made most p = record {
     answering = record {
       read = read_kept u u' u'' s.input made most read_keeps p.answering.read;
@@ -306,22 +306,22 @@ module _ {S : Type 0} (Step : S → Request → Reply → S → Type 0) (first :
 
   pub closing_stays : (now : S) (most : ℕ) (fault : SessionFault) → IsOverBy Step first now u u' h h' most (Err fault) → IsOverBy Step first now u u'' h h'' most (Err fault)
   closing_stays now most fault p =
-      let q = over_kept Step first now u u' h h' new_session 0 0 most h'' fault written_keeps p in (
+      let q = over_kept Step first now u u' h h' nothing_read 0 0 most h'' fault written_keeps p in (
         record { input = q.0.input; read = Consumes-kept u u' u'' q.0.input q.0.read read_keeps; bound = q.0.bound; serves = q.0.serves },
         λ many. let made = q.1 many in record { input = made.input; read = Consumes-kept u u' u'' made.input made.read read_keeps; interrupted = made.interrupted; gave = made.gave },
       )
 
-  came_stays : (now : S) (stage : Stage) (talk : Talk) → CanWait stage talk.session → Came Step first now u u' h h' stage talk → Came Step first now u u'' h h'' stage talk
-  came_stays now Answering talk waits p = absurd waits
-  came_stays now Sending talk waits p = sending_left now talk.session talk.replies talk.made talk.most p
-  came_stays now Telling talk waits p = telling_left now talk.session talk.replies talk.made talk.most p
-  came_stays now Flushing talk waits p = idle_stays now talk.session talk.replies talk.made talk.most p
-  came_stays now Reading talk waits p = idle_stays now talk.session talk.replies talk.made talk.most p
-  came_stays now (Closing fault) talk waits p = closing_stays now talk.most fault p
-  came_stays now (Over result) talk waits p = absurd waits
+  came_stays : (now : S) (stage : Stage) (session : Session) → CanWait stage session.buffers → Came Step first now u u' h h' stage session → Came Step first now u u'' h h'' stage session
+  came_stays now Answering session waits p = absurd waits
+  came_stays now Sending session waits p = sending_left now session.buffers session.replies session.made session.most p
+  came_stays now Telling session waits p = telling_left now session.buffers session.replies session.made session.most p
+  came_stays now Flushing session waits p = idle_stays now session.buffers session.replies session.made session.most p
+  came_stays now Reading session waits p = idle_stays now session.buffers session.replies session.made session.most p
+  came_stays now (Closing fault) session waits p = closing_stays now session.most fault p
+  came_stays now (Over result) session waits p = absurd waits
 
-  pub came_kept : (now now' : S) (stage : Stage) (talk talk' : Talk) → talk' ≡ talk → now' ≡ now → CanWait stage talk'.session → Came Step first now u u' h h' stage talk → Came Step first now' u u'' h h'' stage talk'
-  came_kept now now' stage talk talk' same stays waits p =
-      subst (λ (x : Talk). Came Step first now' u u'' h h'' stage x) (sym same)
-      (subst (λ (x : S). Came Step first x u u'' h h'' stage talk) (sym stays)
-      (came_stays now stage talk (subst (λ (x : Talk). CanWait stage x.session) same waits) p))
+  pub came_kept : (now now' : S) (session session' : Session) → session' ≡ session → now' ≡ now → CanWait session.stage session'.buffers → Came Step first now u u' h h' session.stage session → Came Step first now' u u'' h h'' session'.stage session'
+  came_kept now now' session session' same stays waits p =
+      subst (λ (x : Session). Came Step first now' u u'' h h'' x.stage x) (sym same)
+      (subst (λ (x : S). Came Step first x u u'' h h'' session.stage session) (sym stays)
+      (came_stays now session.stage session (subst (λ (x : Session). CanWait session.stage x.buffers) same waits) p))

@@ -17,7 +17,8 @@ use Rattle.vnode_core.specs.declared.refusal.Refusal.TheVariants.{NoMemory}
 use Rattle.vnode_core.specs.Plans.{IsAcceptedStep, IsWrite, IsAnsweredUnchanged, Refuses, Steps}
 use Rattle.vnode_core.specs.Refusals.{number_of}
 use Rattle.sibling_register.specs.Refusals.{refusal_text}
-use Rattle.node_session.specs.PlainStep.{StepsBy, StepsByWrite, answer_reply}
+use Rattle.vnode_core.specs.Replies.{answer_reply}
+use Rattle.node_session.specs.PlainStep.{StepsBy, StepsByWrite}
 
 -- what the machine accepts may be refused memory
 gives_up : (state new : State Content) (o : MachineOutcome) → IsAcceptedStep o → new ≡ state → StepsBy state o (Error (refusal_text (number_of NoMemory))) new

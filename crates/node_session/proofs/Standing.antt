@@ -1,5 +1,5 @@
 -- How far a session has come, and how it ends.
-use Rattle.std.proofs.Common.{◌≡◌, ℕ, ◌+◌, ◌<◌, ◌≤◌, List, [], ◌∷◌, ◌++◌, length, take, Option, Result, Ok, Err, refl, sym, ap, subst, ◌∙◌, append_assoc, append-nil, length-append, inl, inr, arith}
+use Rattle.std.proofs.Common.{◌≡◌, ℕ, ◌+◌, ◌<◌, ◌≤◌, List, [], ◌∷◌, ◌++◌, length, take, Option, refl, sym, ap, subst, ◌∙◌, append_assoc, append-nil, length-append, inl, inr, arith}
 use Rattle.std.specs.List.{flat_map}
 use Rattle.std.specs.Io.KnownBytes.{Appends, Consumes, Keeps}
 use Rattle.std.proofs.KnownBytes.{Appends-trans, Appends-nil, Appends-kept, Consumes-trans, Consumes-kept, Consumes-nil}
@@ -13,15 +13,13 @@ use Rattle.riak_msgs.specs.declared.request.Request.{Request}
 use Rattle.riak_msgs.specs.declared.reply.Reply.{Reply}
 use Rattle.riak_msgs.specs.declared.reply.Reply.TheVariants.{Error}
 use Rattle.node_session.specs.declared.exchange.Exchange.{Exchange}
-use Rattle.node_session.specs.declared.session.Next.{Next}
-use Rattle.node_session.specs.declared.session.Halt.{Halt}
 use Rattle.node_session.specs.declared.fault.SessionFault.TheVariants.{BadFrame, NoMemory}
 use Rattle.node_session.specs.Answers.{Answers, AnswersInTurn, reply_frame, frame_fault_text}
 use Rattle.node_session.specs.Answered.{AllAnswered, AnsweredInput, NextReply, IsError, IsBadLengthTold, CameInLastRead, AtLastRead, WriteFailedAt, IsMemoryRefused}
 use Rattle.node_session.specs.Session.{IsInputEnd, MadeReads, Stops}
 use Rattle.node_session.specs.Sending.{IsWriteCutShort, Stands}
-use Rattle.node_session.specs.Nexts.{AnswersNext, IsNextAnswered, IsBadNext, IsLost}
-use Rattle.node_session.specs.Views.{SessionView, CanFollow, EndsInPiece, IsRead, message_of, messages_of, replies_of}
+use Rattle.node_session.specs.Nexts.{IsNextAnswered, IsBadNext, IsLost}
+use Rattle.node_session.specs.Views.{Transcript, CanFollow, EndsInPiece, IsRead, message_of, messages_of, replies_of}
 use Rattle.node_session.proofs.Frames.{came_after}
 pub use Rattle.node_session.proofs.Frames.{some_frame}
 
@@ -64,13 +62,6 @@ read_count input rest es p =
     omega (arith, long, same, len)
 
 module _ {S : Type 0} (Step : S → Request → Reply → S → Type 0) where
-  -- what became of the next message, by how it came out
-  pub next_at : (b c : S) (s t : SessionView) (r : Result Next Halt) (n n' : Next) → r ≡ Ok n → n ≡ n' → AnswersNext Step b c s t r → AnswersNext Step b c s t (Ok n')
-  next_at b c s t r n n' e d p = subst (λ (x : Next). AnswersNext Step b c s t (Ok x)) d (subst (λ (x : Result Next Halt). AnswersNext Step b c s t x) e p)
-
-  pub halt_at : (b c : S) (s t : SessionView) (r : Result Next Halt) (n n' : Halt) → r ≡ Err n → n ≡ n' → AnswersNext Step b c s t r → AnswersNext Step b c s t (Err n')
-  halt_at b c s t r n n' e d p = subst (λ (x : Halt). AnswersNext Step b c s t (Err x)) d (subst (λ (x : Result Next Halt). AnswersNext Step b c s t x) e p)
-
   -- one message more
   pub run_more : (a b c : S) (ms : List CodedMessage) (rs : List Reply) (m : CodedMessage) (r : Reply) → AnswersInTurn Step a ms rs b → Answers Step b m r c → AnswersInTurn Step a (ms ++ m ∷ []) (rs ++ r ∷ []) c
   run_more a b c [] [] m r p q = (c, subst (λ (x : S). Answers Step x m r c) p q, refl)
@@ -78,28 +69,28 @@ module _ {S : Type 0} (Step : S → Request → Reply → S → Type 0) where
   run_more a b c [] (t ∷ rs) m r p q = absurd p
   run_more a b c (n ∷ ms) [] m r p q = absurd p
 
-  pub stands_none : (a : S) (h : Option (List ℕ)) (s : SessionView) → s.exchanges ≡ [] → Stands Step a a h h s
+  pub stands_none : (a : S) (h : Option (List ℕ)) (s : Transcript) → s.exchanges ≡ [] → Stands Step a a h h s
   stands_none a h s e = record {
     run = subst (λ (es : List Exchange). AnswersInTurn Step a (messages_of es) (replies_of es) a) (sym e) refl;
     written = subst (λ (es : List Exchange). Appends h h (flat_map reply_frame (replies_of es))) (sym e) (Appends-nil h);
   }
 
   -- the exchanges alone count
-  pub stands_same : (a b : S) (h h' : Option (List ℕ)) (s t : SessionView) → t.exchanges ≡ s.exchanges → Stands Step a b h h' s → Stands Step a b h h' t
+  pub stands_same : (a b : S) (h h' : Option (List ℕ)) (s t : Transcript) → t.exchanges ≡ s.exchanges → Stands Step a b h h' s → Stands Step a b h h' t
   stands_same a b h h' s t e p = record {
     run = subst (λ (es : List Exchange). AnswersInTurn Step a (messages_of es) (replies_of es) b) (sym e) p.run;
     written = subst (λ (es : List Exchange). Appends h h' (flat_map reply_frame (replies_of es))) (sym e) p.written;
   }
 
   -- one exchange more, whose reply was written
-  pub stands_more : (a b c : S) (h h' h'' : Option (List ℕ)) (s t u : SessionView) → s.unsent ≡ [] → IsNextAnswered Step b c s t → Appends h' h'' t.unsent → u ≡ record t { unsent = [] }
+  pub stands_more : (a b c : S) (h h' h'' : Option (List ℕ)) (s t u : Transcript) → s.unsent ≡ [] → IsNextAnswered Step b c s t → Appends h' h'' t.unsent → u ≡ record t { unsent = [] }
       → Stands Step a b h h' s → Stands Step a c h h'' u
   stands_more a b c h h' h'' s t u none one wrote e p =
       let es = s.exchanges in
       let x = one.exchange in
       let r = x.reply in
       let sent : t.unsent ≡ reply_frame r = one.unsent ∙ ap (λ (l : List ℕ). l ++ reply_frame r) none in
-      let all : u.exchanges ≡ es ++ x ∷ [] = ap (λ (v : SessionView). v.exchanges) e ∙ one.exchanges in
+      let all : u.exchanges ≡ es ++ x ∷ [] = ap (λ (v : Transcript). v.exchanges) e ∙ one.exchanges in
       let ms : messages_of (es ++ x ∷ []) ≡ messages_of es ++ message_of x ∷ [] = map-append message_of es (x ∷ []) in
       let rs : replies_of (es ++ x ∷ []) ≡ replies_of es ++ r ∷ [] = map-append (λ (y : Exchange). y.reply) es (x ∷ []) in
       let frames_are : flat_map reply_frame (replies_of (es ++ x ∷ [])) ≡ flat_map reply_frame (replies_of es) ++ reply_frame r =
@@ -113,7 +104,7 @@ module _ {S : Type 0} (Step : S → Request → Reply → S → Type 0) where
             (subst (Appends h h'') (sym frames_are) (Appends-trans h h' h'' _ _ p.written (subst (Appends h' h'') sent wrote)));
       }
 
-  module _ (a b : S) (h h' h'' : Option (List ℕ)) (s : SessionView) (count : ℕ) (p : Stands Step a b h h' s) (read : IsRead s.input s.exchanges s.rest) (counted : length s.exchanges ≡ count) where
+  module _ (a b : S) (h h' h'' : Option (List ℕ)) (s : Transcript) (count : ℕ) (p : Stands Step a b h h' s) (read : IsRead s.input s.exchanges s.rest) (counted : length s.exchanges ≡ count) where
     -- it ended so behind what was written
     pub ended : (last : List ℕ) (Ends : S → List ℕ → List ℕ → Type 0) → Appends h' h'' last → Ends b s.rest last → AnsweredInput Step a s.input h h'' count Ends
     ended last Ends wrote ends = record {
@@ -130,7 +121,7 @@ module _ {S : Type 0} (Step : S → Request → Reply → S → Type 0) where
       ends = ends;
     }
 
-    module _ (c : S) (t : SessionView) (none : s.unsent ≡ []) where
+    module _ (c : S) (t : Transcript) (none : s.unsent ≡ []) where
       -- a reply was cut short
       pub cut_reply : IsNextAnswered Step b c s t → IsWriteCutShort h' h'' t.unsent → AnsweredInput Step a s.input h h'' count (WriteFailedAt Step c)
       cut_reply one cut =
@@ -178,7 +169,7 @@ module _ {S : Type 0} (Step : S → Request → Reply → S → Type 0) where
 
 module _ {S : Type 0} (Step : S → Request → Reply → S → Type 0) where
   -- what was written is kept
-  pub stands_kept : (a b : S) (h h' h'' : Option (List ℕ)) (s : SessionView) → Keeps h' h'' → Stands Step a b h h' s → Stands Step a b h h'' s
+  pub stands_kept : (a b : S) (h h' h'' : Option (List ℕ)) (s : Transcript) → Keeps h' h'' → Stands Step a b h h' s → Stands Step a b h h'' s
   stands_kept a b h h' h'' s kept p = record { run = p.run; written = Appends-kept h h' h'' _ p.written kept }
 
   pub answered_kept : (a : S) (input : List ℕ) (h h' h'' : Option (List ℕ)) (count : ℕ) (Ends : S → List ℕ → List ℕ → Type 0) → Keeps h' h'' → AnsweredInput Step a input h h' count Ends → AnsweredInput Step a input h h'' count Ends
@@ -196,7 +187,7 @@ module _ {S : Type 0} (Step : S → Request → Reply → S → Type 0) where
     ends = p.ends;
   }
 
-  module _ (a b : S) (h h' h'' : Option (List ℕ)) (s : SessionView) (count : ℕ) (p : Stands Step a b h h' s) (read : IsRead s.input s.exchanges s.rest) (counted : length s.exchanges ≡ count) (kept : Keeps h' h'') where
+  module _ (a b : S) (h h' h'' : Option (List ℕ)) (s : Transcript) (count : ℕ) (p : Stands Step a b h h' s) (read : IsRead s.input s.exchanges s.rest) (counted : length s.exchanges ≡ count) (kept : Keeps h' h'') where
     abbrev none_more : Appends h' h'' []
     none_more = Appends-kept h' h' h'' [] (Appends-nil h') kept
 

@@ -1,5 +1,5 @@
 -- A message that was taken and answered.
-use Rattle.std.proofs.Common.{◌≡◌, ℕ, List, Option, Some, Result, Ok, Err, sym, ap, subst, ◌∙◌, inr}
+use Rattle.std.proofs.Common.{◌≡◌, ℕ, List, [], ◌∷◌, ◌++◌, Option, Some, Result, Ok, Err, sym, ap, subst, ◌∙◌, inr}
 use Rattle.pb_frame.specs.declared.fault.FrameFault.{FrameFault}
 use Rattle.pb_frame.specs.declared.frame.Frame.{Frame}
 use Rattle.pb_frame.specs.Limits.{max_request_len}
@@ -14,7 +14,6 @@ use Rattle.riak_msgs.specs.declared.reply.Reply.TheVariants.{Error}
 use Rattle.riak_msgs.specs.Reading.{Reads}
 use Rattle.node_session.specs.declared.exchange.Exchange.{Exchange}
 use Rattle.node_session.specs.Answers.{Answers, message_fault_text}
-use Rattle.node_session.specs.Taking.{IsToldNext, TakesNext}
 use Rattle.node_session.specs.Views.{IsRead, message_of}
 use Rattle.node_session.proofs.Frames.{read_more}
 
@@ -32,17 +31,13 @@ module _ {S : Type 0} (Step : S → Request → Reply → S → Type 0) where
   refused old new code body faults.NoKey reply is same reads = record { said = Err faults.NoKey; says = reads; answers = (is, same) }
   refused old new code body faults.NoMemory reply is same reads = record { said = Ok reads.0; says = reads.1; answers = inr (is, same) }
 
-  pub told_at : (node node' : S) (framer framer' : Stream) (es es' : List Exchange) (unsent : List ℕ) (r : Result (Option (Result (Unit {0}) FrameFault)) FrameFault) (o : Option (Result (Unit {0}) FrameFault)) (put : Result (Unit {0}) FrameFault) → r ≡ Ok o → o ≡ Some put
-      → TakesNext Step node node' framer framer' es es' unsent r → IsToldNext Step node node' framer framer' es es' unsent put
-  told_at node node' framer framer' es es' unsent r o put e d t =
-      subst (λ (x : Option (Result (Unit {0}) FrameFault)). TakesNext Step node node' framer framer' es es' unsent (Ok x)) d (subst (λ (x : Result (Option (Result (Unit {0}) FrameFault)) FrameFault). TakesNext Step node node' framer framer' es es' unsent x) e t)
+-- behind a message that was taken, answered and listed
+module _ (framer framer' : Stream) (es es' : List Exchange) (exchange : Exchange) (input : List ℕ) (limit : framer.limit ≡ max_request_len) (taken : IsTaken framer (message_of exchange) framer') (listed : es' ≡ es ++ exchange ∷ []) where
+  within : FitsLimit max_request_len (message_of exchange)
+  within = subst (λ (n : ℕ). FitsLimit n (message_of exchange)) limit taken.within
 
-  module _ (node node' : S) (framer framer' : Stream) (es es' : List Exchange) (unsent : List ℕ) (put : Result (Unit {0}) FrameFault) (input : List ℕ) (limit : framer.limit ≡ max_request_len) (told : IsToldNext Step node node' framer framer' es es' unsent put) where
-    abbrev within : FitsLimit max_request_len (message_of told.exchange)
-    within = subst (λ (n : ℕ). FitsLimit n (message_of told.exchange)) limit told.taken.within
+  pub still_limit : framer'.limit ≡ max_request_len
+  still_limit = ap (λ (s : Stream). s.limit) taken.stream ∙ limit
 
-    pub still_limit : framer'.limit ≡ max_request_len
-    still_limit = ap (λ (s : Stream). s.limit) told.taken.stream ∙ limit
-
-    pub still_read : IsRead input es framer.rest → IsRead input es' framer'.rest
-    still_read p = subst (λ (l : List Exchange). IsRead input l framer'.rest) (sym told.listed) (read_more input framer.rest framer'.rest es told.exchange p within told.taken.front)
+  pub still_read : IsRead input es framer.rest → IsRead input es' framer'.rest
+  still_read p = subst (λ (l : List Exchange). IsRead input l framer'.rest) (sym listed) (read_more input framer.rest framer'.rest es exchange p within taken.front)

@@ -4,10 +4,9 @@ pub mod Answered
 pub mod Session
 pub mod Views
 pub mod Unsent
-pub mod Taking
 pub mod Nexts
 pub mod Sending
-pub mod Courses
+pub mod Stages
 pub mod Report
 pub mod PlainStep
 pub mod PlainNodes

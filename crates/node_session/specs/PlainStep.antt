@@ -11,8 +11,6 @@ use Rattle.vnode_machine.specs.Asks.{put_command, del_command}
 use Rattle.vnode_machine.specs.Step.{Response, GetDone, PutDone, DelDone, ReapDone, ReapKept, MachineOutcome, Refused, Answered, Accepted, outcome}
 use Rattle.vnode_core.specs.declared.ask.Ask.{Ask as AskOfVnode}
 use Rattle.vnode_core.specs.declared.ask.Ask.TheVariants as asks
-use Rattle.vnode_core.specs.declared.ask.Answer.{Answer}
-use Rattle.vnode_core.specs.declared.ask.Answer.TheVariants as answers
 
 -- the reply for a response; that to a reap, which no request asks for, is that to a delete
 abbrev pub response_reply : Response → Reply
@@ -21,16 +19,6 @@ response_reply (PutDone reply) = replies.Put reply
 response_reply DelDone = replies.Del
 response_reply ReapDone = replies.Del
 response_reply ReapKept = replies.Del
-
--- the reply for a vnode's answer. No request asks for a reap, which is replied to as a delete is; nor for a copy or a close, and of a
--- vnode that is closed the caller's partition has moved on
-abbrev pub answer_reply : Answer → Reply
-answer_reply (answers.Put reply) = replies.Put reply
-answer_reply answers.Del = replies.Del
-answer_reply (answers.Reaped reaped) = replies.Del
-answer_reply answers.Copied = replies.Error texts.Moved
-answer_reply answers.Stuck = replies.Error texts.Moved
-answer_reply answers.Closed = replies.Error texts.Moved
 
 -- the reply for a response or the number of a refusal
 abbrev pub reply_of : Result Response ℕ → Reply

@@ -19,7 +19,7 @@ replies_of es = map (λ (e : Exchange). e.reply) es
 
 -- what was read, the messages of it that were answered, with their replies, what is left of it behind these, the bad length
 -- that was met, if there was one, and what was not yet sent of the replies' frames
-pub record SessionView : Type 0 where
+pub record Transcript : Type 0 where
   pub input : List ℕ
   pub exchanges : List Exchange
   pub rest : List ℕ
@@ -27,8 +27,8 @@ pub record SessionView : Type 0 where
   pub unsent : List ℕ
 
 -- nothing was read yet
-abbrev pub new_session : SessionView
-new_session = record { input = []; exchanges = []; rest = []; fault = None; unsent = [] }
+abbrev pub nothing_read : Transcript
+nothing_read = record { input = []; exchanges = []; rest = []; fault = None; unsent = [] }
 
 -- but for its last bytes, as many as a read takes at most, nothing is wrong with it and no whole frame stands there
 pub record EndsInPiece (rest : List ℕ) : Type 0 where

@@ -62,6 +62,7 @@ impl MessageKind {
 }
 
 /// The place of an outcome among those of a kind: the first is no error's.
+#[inline(always)]
 fn outcome_place(error: Option<Text>) -> usize
     ensures { result ≤ 18 }
 {
@@ -113,11 +114,11 @@ impl AnswerCounts {
     }
 
     /// A message of this code was answered, by this error if it is one.
+    #[inline(always)]
     pub(crate) fn count(&self, code: u8, error: Option<Text>) {
         let place = MessageKind::of_code(code).place() * OUTCOMES + outcome_place(error);
         if let Some(number) = self.numbers.get(place) {
-            let raised = number.load(Ordering::Relaxed).wrapping_add(1);
-            number.store(raised, Ordering::Relaxed);
+            let _before = number.fetch_add(1, Ordering::Relaxed);
         }
     }
 

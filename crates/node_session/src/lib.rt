@@ -15,9 +15,9 @@
 //! answered by one error, and ends the session. Each other end has its clause too: how many whole replies
 //! went out before it, and the state of the node (`specs/Session`).
 //!
-//! [`Course`] is a session in steps, each of which answers one message or calls one stream once; each
+//! [`Session`] is a session in steps, each of which answers one message or calls one stream once; each
 //! reply is sent before the next message is answered. Whoever has many of them may take their steps in
-//! any order, and each comes to what `serve` promises (`specs/Courses`). [`serve`] is the loop of these
+//! any order, and each comes to what `serve` promises (`specs/Stages`). [`serve`] is the loop of these
 //! steps, over streams that wait. What a step reads into, and where a reply's frame lies until it was
 //! sent, is lent to it ([`Scratch`]), so a session that waits for its next request holds no buffer.
 //!
@@ -37,9 +37,9 @@
 //! # Proved
 //!
 //! The output of `serve` is the session's output for the bytes that it read, over any reader,
-//! writer and node. Each step of a `Course` leaves less to be done, so a session ends. **A session
+//! writer and node. Each step of a `Session` leaves less to be done, so a session ends. **A session
 //! over a plain node is one over the sibling register**: each reply but `no memory` is what the
-//! register answers at its place. By `serve`, the calls of `Course`, `Node`, `ReplyFrame` and
+//! register answers at its place. By `serve`, the calls of `Session`, `Node`, `ReplyFrame` and
 //! `PlainNode`, `write_fault`, `exit_status`; laws `plain_node_is_register`, `read_limit`.
 //!
 //! # Tested
@@ -59,8 +59,8 @@
 
 mod answer_counts;
 mod answering;
+mod buffers;
 mod constant_frames;
-mod course;
 mod ended;
 mod exchange;
 mod fault;
@@ -76,11 +76,10 @@ mod scratch;
 mod serving;
 mod session;
 mod stage;
-mod talk;
 mod vnode_reply;
 
 pub use answer_counts::{AnswerCounts, MessageKind};
-pub use course::Course;
+pub use buffers::Buffers;
 pub use ended::Ended;
 pub use exchange::Exchange;
 pub use fault::SessionFault;
@@ -93,6 +92,5 @@ pub use reply_frame::ReplyFrame;
 pub use report::{exit_status, write_fault};
 pub use scratch::Scratch;
 pub use serving::{MAX_READ_LEN, serve};
+pub use session::Session;
 pub use stage::Stage;
-pub use talk::Talk;
-pub use vnode_reply::answer_reply;

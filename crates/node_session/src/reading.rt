@@ -2,7 +2,7 @@
 ghost use Rattle.std.specs.Prelude.{◌≡◌, ◌+◌, ◌-◌, ◌*◌, ◌<◌, ◌≤◌, ℕ, Option, List, length, IfSome};
 ghost use Rattle.std.specs.Prelude.{IfNone};
 ghost use Rattle.std.specs.Io.KnownBytes.{Keeps};
-ghost use Rattle.node_session.specs.Courses.{Goes, Fits, weight};
+ghost use Rattle.node_session.specs.Stages.{Goes, Fits, weight};
 ghost use Rattle.node_session.specs.Limits.{max_read_len};
 ghost use Rattle.node_session.specs.Views.{CanFollow};
 ghost use Rattle.node_session.specs.declared.stage.Stage.TheVariants.{Reading};
@@ -11,8 +11,8 @@ use crate::ended::Ended;
 use crate::fault::SessionFault;
 use crate::node::Node;
 use crate::serving::MAX_READ_LEN;
+use crate::session::Session;
 use crate::stage::Stage;
-use crate::talk::Talk;
 use std::alloc::Global;
 use std::io::{ErrorKind, Read};
 
@@ -28,7 +28,7 @@ fn reads_for(bytes: usize) -> u64
     bytes.div_ceil(MAX_READ_LEN) as u64
 }
 
-impl Talk {
+impl Session {
     /// Reads once into this buffer, and takes what comes, which this node will answer, where it has no
     /// room into what is lent. None where the reader would have to wait.
     #[inline(always)]
@@ -42,7 +42,7 @@ impl Talk {
     ) -> Option<Stage>
         requires fits { Fits Reading self.old }
         requires some { 0 < length piece.old }
-        requires follows { CanFollow self.old.session.rest (length piece.old) }
+        requires follows { CanFollow self.old.buffers.rest (length piece.old) }
         requires counted { length piece.old ≤ 4096 * (self.old.most - self.old.made) }
         ensures goes { IfSome result (λ stage. (now : N) (held : Option (List ℕ)) → Goes N.step
             now now (R.remaining reader.old) (R.remaining reader.new) held held
@@ -54,16 +54,16 @@ impl Talk {
         ensures waits { IfNone result ((self.new ≡ self.old)
             × Keeps (R.remaining reader.old) (R.remaining reader.new)) }
     {
-        self.session.is_read();
+        self.buffers.is_read();
         match reader.read(piece) {
             Ok(0) => Some(Stage::Over(Ok(Ended {
                 replies: self.replies,
-                rest: self.session.rest(),
+                rest: self.buffers.rest(),
             }))),
             Ok(n) => {
                 self.made += reads_for(n);
-                self.session.lend(requests, n);
-                let Ok(()) = self.session.feed_for(alloc, node, &piece[..n]) else {
+                self.buffers.lend(requests, n);
+                let Ok(()) = self.buffers.feed_for(alloc, node, &piece[..n]) else {
                     return Some(Stage::Closing(SessionFault::NoMemory(self.replies)));
                 };
                 Some(Stage::Answering)
@@ -104,11 +104,11 @@ impl Talk {
         ensures waits { IfNone result ((self.new ≡ self.old)
             × Keeps (R.remaining reader.old) (R.remaining reader.new)) }
     {
-        let wanted = self.session.missing().min(long_piece.len());
+        let wanted = self.buffers.missing().min(long_piece.len());
         if wanted > MAX_READ_LEN && reads_for(wanted) <= self.most - self.made {
             return self.read_long::<N, R>(alloc, reader, node, long_piece, wanted, requests);
         }
-        let len = self.session.reading_len(requests);
+        let len = self.buffers.reading_len(requests);
         self.read::<N, R>(alloc, reader, node, &mut piece[..len], requests)
     }
 
@@ -125,7 +125,7 @@ impl Talk {
     ) -> Option<Stage>
         requires fits { Fits Reading self.old }
         requires some { (0 < len) × (len ≤ length long_piece.old.items) }
-        requires follows { CanFollow self.old.session.rest len }
+        requires follows { CanFollow self.old.buffers.rest len }
         requires counted { len ≤ 4096 * (self.old.most - self.old.made) }
         ensures goes { IfSome result (λ stage. (now : N) (held : Option (List ℕ)) → Goes N.step
             now now (R.remaining reader.old) (R.remaining reader.new) held held

@@ -5,11 +5,11 @@ ghost use Rattle.std.specs.Io.KnownBytes.{IsAtEnd};
 ghost use Rattle.node_session.specs.Answered.{AnsweredInput};
 ghost use Rattle.node_session.specs.Session.{Given, IsInputEnd, IsTooManyReads, MadeReads, Stops};
 
-use crate::course::Course;
 use crate::ended::Ended;
 use crate::fault::SessionFault;
 use crate::node::Node;
 use crate::scratch::Scratch;
+use crate::session::Session;
 use std::alloc::Global;
 use std::io::{Read, Write};
 
@@ -51,14 +51,14 @@ pub fn serve<R: Read, W: Write, N: Node>(
     ensures too_many { IfErr result (λ fault. IsTooManyReads fault
         → MadeReads (R.remaining reader.old) (R.remaining reader.new) reads) }
 {
-    let mut course = Course::new(alloc, reads);
+    let mut session = Session::new(alloc, reads);
     let mut scratch = Scratch::new(alloc);
     'steps: loop {
-        if let Some(result) = course.outcome() {
+        if let Some(result) = session.outcome() {
             return result;
         }
-        if course.step(alloc, reader, writer, node, &mut scratch) {
-            course.stop::<N>();
+        if session.step(alloc, reader, writer, node, &mut scratch) {
+            session.stop::<N>();
         }
     }
 }

@@ -1,267 +1,329 @@
-//! A session in steps: bytes come in, messages are answered, bytes go out.
-
-ghost use Rattle.std.specs.Prelude.{◌≡◌, ◌+◌, ◌^◌, ◌≤◌, ◌<◌, ◌++◌, [], drop, length, None, OnOk};
-ghost use Rattle.std.specs.Prelude.{OnErr};
+//! A session in steps.
+ghost use Rattle.std.specs.Prelude.{◌≡◌, ◌<◌, ◌≤◌, [], ℕ, List, Option, None, length, true, false};
+ghost use Rattle.std.specs.Prelude.{IfNone, IfSome};
+ghost use Rattle.std.specs.Io.KnownBytes.{Keeps};
 ghost use Rattle.pb_frame.specs.Limits.{max_request_len};
-ghost use Rattle.node_session.specs.Limits.{max_read_len};
-ghost use Rattle.pb_frame.specs.Message.{IsPartial, given_length};
-ghost use Rattle.node_session.specs.Views.{new_session, CanFollow, IsRead};
-ghost use Rattle.node_session.specs.Nexts.{AnswersNext};
-ghost use Rattle.node_session.specs.Unsent.{IsFront};
+ghost use Rattle.pb_frame.specs.Message.{IsPartial};
+ghost use Rattle.node_session.specs.Views.{nothing_read};
+ghost use Rattle.node_session.specs.Stages.{Came, IsOverBy, Goes, Fits, IsGoing, CanWait, IsOver};
+ghost use Rattle.node_session.specs.Stages.{weight};
+ghost use Rattle.node_session.specs.declared.stage.Stage.TheVariants.{Answering, Sending, Telling};
+ghost use Rattle.node_session.specs.declared.stage.Stage.TheVariants.{Flushing, Reading, Closing};
+ghost use Rattle.node_session.specs.declared.stage.Stage.TheVariants.{Over};
 
-use crate::answering::answer_next;
-use crate::exchange::Exchange;
+use crate::buffers::{Buffers, Next};
+use crate::ended::Ended;
+use crate::fault::SessionFault;
 use crate::node::Node;
-use crate::reply::frame_fault_text;
-use crate::reply_frame::ReplyFrame;
 use crate::scratch::Scratch;
-use crate::serving::MAX_READ_LEN;
-use ghost_state::{GhostList, Listing};
-use pb_frame::{Framer, MAX_REQUEST_LEN};
-use std::alloc::{AllocError, Global};
-use std::marker::Model;
+use crate::stage::Stage;
+use pb_frame::{Flushed, Wrote, try_flush, try_write};
+use std::alloc::Global;
+use std::io::{Read, Write};
 
-/// The code for what has none: a frame of a bad length.
-const NO_CODE: u8 = 0;
-
-/// What a session did about its next message.
-#[derive(Clone, Copy, Drop)]
-pub enum Next {
-    /// It was answered, and its reply is to be sent.
-    Answered,
-    /// None has come whole: the session waits for a further piece.
-    Idle,
-}
-
-/// Why a session ends among its answers.
-#[derive(Clone, Copy, Drop)]
-pub enum Halt {
-    /// A bad length stood next. Its error is to be sent.
-    BadFrame,
-    /// Memory was refused for a reply, which is lost. The node has taken its step.
-    NoMemory,
-}
-
-/// One connection's session, which knows neither its reader nor its writer nor its node: pieces that were
-/// read are fed to it, a node is lent to each answer, and what is to be sent is looked at and told as
-/// sent. So it serves streams that wait and streams that don't.
+/// A session in steps, which knows neither its streams nor its node: these are lent to each step, and so
+/// is the room for what it reads and replies.
 ///
-/// It holds the message that is still to come whole, what was read along with it, and what is still to be
-/// sent of the last reply: the next message is answered once all of it was. Contracts see all that was
-/// read and each message with its reply too, of which nothing is held.
+/// ```text
+/// let mut session = Session::new(alloc, 1000);                            // 1,000 reads at most
+/// session.step(alloc, &mut reader, &mut writer, &mut node, &mut scratch)    // false: nothing has come, so it flushes; then it reads, answers, writes
+/// session.step(alloc, &mut reader, &mut writer, &mut node, &mut scratch)    // true, once a stream would have to wait: call again when it is ready,
+/// session.stop::<N>()                                                     // or end the session there
+/// session.outcome()                                                       // Some(Err(SessionFault::ReadFailed(0)))
+/// ```
 #[derive(Drop)]
 pub struct Session {
-    framer: Framer,
-    outbox: ReplyFrame,
-    input: GhostList<u8>,
-    exchanges: GhostList<Exchange>,
-}
-
-impl Model for Session {
-    ghost use Rattle.std.specs.Prelude.{◌≡◌};
-    ghost use Rattle.pb_frame.specs.Limits.{max_request_len};
-    ghost use Rattle.node_session.specs.Limits.{max_read_len};
-    ghost use Rattle.node_session.specs.Views.{SessionView, IsRead};
-
-    ghost Value = { SessionView };
-
-    ghost view = { λ s. record {
-      input = s.input;
-      exchanges = s.exchanges;
-      rest = s.framer.rest;
-      fault = s.framer.fault;
-      unsent = s.outbox;
-    } };
-
-    ghost invariant = { λ s. (s.framer.limit ≡ max_request_len)
-        × IsRead s.input s.exchanges s.framer.rest };
-}
-
-/// A list with a piece behind it.
-struct Fed;
-
-impl<'a> Listing<(&'a GhostList<u8>, &'a [u8]), u8> for Fed {
-    ghost use Rattle.std.specs.Prelude.{◌++◌};
-
-    ghost list = { λ pair. pair.0.now ++ pair.1.now };
+    /// What was read and isn't answered, and what is answered and isn't sent.
+    pub buffers: Buffers,
+    /// What it does next.
+    pub stage: Stage,
+    /// How many replies were written whole.
+    pub replies: u64,
+    /// How many reads were made.
+    pub made: u64,
+    /// How many reads are made at most.
+    pub most: u64,
 }
 
 impl Session {
-    /// A session that has read nothing. It takes no memory.
-    pub fn new(alloc: Global) -> Session
-        ensures { result ≡ new_session }
+    /// Nothing was read yet, and so many reads are made at most. It takes no memory.
+    pub fn new(alloc: Global, most: u64) -> Session
+        ensures { result ≡ record {
+          buffers = nothing_read;
+          stage = Answering;
+          replies = 0;
+          made = 0;
+          most = most;
+        } }
     {
         Session {
-            framer: Framer::new(alloc, MAX_REQUEST_LEN),
-            outbox: ReplyFrame::new(alloc),
-            input: GhostList::new(),
-            exchanges: GhostList::new(),
+            buffers: Buffers::new(alloc),
+            stage: Stage::Answering,
+            replies: 0,
+            made: 0,
+            most,
         }
     }
 
-    /// How many bytes were read that are in no message that was answered.
-    pub fn rest(&self) -> usize
-        ensures { result ≡ length self.now.rest }
-    {
-        self.framer.rest()
-    }
-
-    /// A law that has nothing to run: what was read is the frames of the messages that were answered, and what is left.
-    pub fn is_read(&self)
-        ensures { IsRead self.now.input self.now.exchanges self.now.rest }
-    {
-        let _ = &self.framer;
-    }
-
-    /// Takes a piece that was read behind all others, of at most 4,096 bytes or no more than the next
-    /// message lacks. Each whole message was answered before. Where memory is refused nothing changes.
-    pub fn feed(&mut self, piece: &[u8]) -> Result<(), AllocError>
-        requires no_fault { self.old.fault ≡ None }
-        requires idle { IsPartial max_request_len self.old.rest }
-        requires follows { CanFollow self.old.rest (length piece.now) }
-        ensures ok { OnOk result (self.new ≡ record self.old {
-          input = self.old.input ++ piece.now;
-          rest = self.old.rest ++ piece.now;
-        }) }
-        ensures err { OnErr result (self.new ≡ self.old) }
-    {
-        if self.framer.feed(piece).is_err() {
-            return Err(AllocError);
-        }
-        let longer = GhostList::listed::<(&GhostList<u8>, &[u8]), Fed>(&(&self.input, piece));
-        self.input = longer;
-        Ok(())
-    }
-
-    /// How many bytes the message lacks that has begun to come: 0 until its length has come.
+    /// What came of it, once it is over.
     #[inline(always)]
-    pub(crate) fn missing(&self) -> usize
-        ensures { 0 < result → (4 ≤ length self.now.rest)
-            × (length self.now.rest + result ≡ given_length self.now.rest + 4) }
+    pub fn outcome(&self) -> Option<Result<Ended, SessionFault>>
+        ensures over { IfSome result (λ outcome. self.now.stage ≡ Over outcome) }
+        ensures is_over { IfSome result (λ _. IsOver self.now.stage) }
+        ensures going { IfNone result (IsGoing self.now.stage) }
     {
-        self.framer.missing()
-    }
-
-    /// Lends it room for a piece of so many bytes.
-    #[inline(always)]
-    pub(crate) fn lend(&mut self, requests: &mut Vec<u8>, more: usize)
-        ensures { self.new ≡ self.old }
-    {
-        self.framer.lend(requests, more);
-    }
-
-    /// How many bytes are to be read at once, which have room in what is lent, or as few that a page is
-    /// enough for what they make longer.
-    #[inline(always)]
-    pub(crate) fn reading_len(&self, requests: &Vec<u8>) -> usize
-        ensures { (0 < result) × (result ≤ max_read_len) }
-    {
-        self.framer.reading_len(requests, MAX_READ_LEN)
-    }
-
-    /// Gives the room back that was lent to it, where nothing is to be answered any more.
-    #[inline(always)]
-    pub(crate) fn give_back(&mut self, scratch: &mut Scratch)
-        requires { self.old.unsent ≡ [] }
-        ensures { self.new ≡ self.old }
-    {
-        if self.framer.rest() == 0 {
-            scratch.take_requests(&mut self.framer);
-            self.outbox.give_back(scratch);
+        match self.stage {
+            Stage::Over(result) => Some(result),
+            _ => None,
         }
     }
 
-    /// Takes a piece, as `feed` does, of a session whose messages a node answers: once more where memory
-    /// was refused and the node made room.
-    pub fn feed_for<N: Node>(
+    /// Takes one step: it answers one message, or calls one stream once. True where that stream would
+    /// have to wait; then nothing is done.
+    #[inline(always)]
+    pub fn step<N: Node, R: Read, W: Write>(
         &mut self,
         alloc: Global,
-        node: &N,
-        piece: &[u8],
-    ) -> Result<(), AllocError>
-        requires no_fault { self.old.fault ≡ None }
-        requires idle { IsPartial max_request_len self.old.rest }
-        requires follows { CanFollow self.old.rest (length piece.now) }
-        ensures ok { OnOk result (self.new ≡ record self.old {
-          input = self.old.input ++ piece.now;
-          rest = self.old.rest ++ piece.now;
-        }) }
-        ensures err { OnErr result (self.new ≡ self.old) }
-    {
-        match self.feed(piece) {
-            Ok(()) => Ok(()),
-            Err(_) => {
-                if node.make_room(alloc) {
-                    return self.feed(piece);
-                }
-                Err(AllocError)
-            }
-        }
-    }
-
-    /// What is to be sent first. There is none only where nothing is to be sent.
-    pub fn pending(&self) -> &[u8]
-        ensures { IsFront result.now self.now.unsent }
-    {
-        self.outbox.next()
-    }
-
-    /// How many bytes are to be sent.
-    pub fn waiting(&self) -> usize
-        ensures { result ≡ length self.now.unsent }
-    {
-        self.outbox.len()
-    }
-
-    /// So many bytes of what is to be sent were sent.
-    pub fn sent(&mut self, n: usize)
-        requires { n ≤ length self.old.unsent }
-        ensures { self.new ≡ record self.old { unsent = drop n self.old.unsent } }
-    {
-        self.outbox.sent(n);
-    }
-
-    /// Answers the next message that has come whole, by a step of the node or, where it is no request, by
-    /// its error, which takes no memory. After a halt there is nothing more to feed or answer.
-    pub fn answer_next<N: Node>(
-        &mut self,
-        alloc: Global,
+        reader: &mut R,
+        writer: &mut W,
         node: &mut N,
         scratch: &mut Scratch,
-    ) -> Result<Next, Halt>
-        requires no_fault { self.old.fault ≡ None }
-        requires sent { self.old.unsent ≡ [] }
-        ensures { AnswersNext N.step node.old node.new self.old self.new result }
+    ) -> bool
+        requires going { IsGoing self.old.stage }
+        requires fits { Fits self.old.stage self.old }
+        ensures goes { Goes N.step node.old node.new
+            (R.remaining reader.old) (R.remaining reader.new)
+            (W.contents writer.old) (W.contents writer.new)
+            self.old.stage self.old self.new.stage self.new }
+        ensures fits { Fits self.new.stage self.new }
+        ensures less { result ≡ false
+            → weight self.new.stage self.new < weight self.old.stage self.old }
+        ensures waits { result ≡ true → CanWait self.new.stage self.new.buffers }
+        ensures still { result ≡ true → self.new ≡ self.old }
+        ensures most { self.new.most ≡ self.old.most }
     {
-        match answer_next(
-            alloc,
-            &mut self.framer,
-            &mut self.exchanges,
-            node,
-            &mut self.outbox,
-            scratch,
-        ) {
-            Ok(Some(put)) => match put {
-                Ok(()) => Ok(Next::Answered),
-                Err(_) => Err(Halt::NoMemory),
-            },
-            Ok(None) => Ok(Next::Idle),
-            Err(fault) => {
-                self.outbox.put_error(frame_fault_text(fault));
-                scratch.count_answer(NO_CODE, &self.outbox);
-                Err(Halt::BadFrame)
+        match self.advance(alloc, reader, writer, node, scratch) {
+            Some(stage) => {
+                self.stage = stage;
+                false
             }
+            None => true,
         }
     }
 
-    /// Gives back the room that was lent to a session that is over.
-    pub(crate) fn end(self, scratch: &mut Scratch) {
+    /// Ends a session whose stream would have to wait, where nobody waits for it: that counts as a
+    /// failure of the stream.
+    pub fn stop<N: Node>(&mut self)
+        requires { CanWait self.old.stage self.old.buffers }
+        ensures goes { (first now : N) (unread unread' held held' : Option (List ℕ))
+            → Came N.step first now unread unread' held held' self.old.stage self.old
+            → Came N.step first now unread unread' held held' self.new.stage self.new }
+        ensures over { IsOver self.new.stage }
+        ensures less { weight self.new.stage self.new < weight self.old.stage self.old }
+        ensures most { self.new.most ≡ self.old.most }
+        ensures fits { Fits self.new.stage self.new }
+    {
+        let result = self.outcome_of_waiting::<N>();
+        self.stage = Stage::Over(result);
+    }
+
+    /// Lets it go, and gives back the room that was lent to it: where a session is over before all of its
+    /// reply was sent.
+    pub fn end(self, scratch: &mut Scratch) {
         let Session {
-            framer,
-            outbox,
-            input: _,
-            exchanges: _,
+            buffers,
+            stage: _,
+            replies: _,
+            made: _,
+            most: _,
         } = self;
-        scratch.take_all(framer, outbox.into_frame());
+        buffers.end(scratch);
+    }
+
+    /// Answers the next message, if one has come whole.
+    #[inline(always)]
+    fn answer<N: Node>(&mut self, alloc: Global, node: &mut N, scratch: &mut Scratch) -> Stage
+        requires { Fits Answering self.old }
+        ensures goes { (unread held : Option (List ℕ)) → Goes N.step node.old node.new
+            unread unread held held Answering self.old result self.new }
+        ensures fits { Fits result self.new }
+        ensures less { weight result self.new < weight Answering self.old }
+        ensures most { self.new.most ≡ self.old.most }
+    {
+        self.buffers.is_read();
+        self.buffers.give_back(scratch);
+        match self.buffers.answer_next(alloc, node, scratch) {
+            Next::Answered => Stage::Sending,
+            Next::Idle => Stage::Flushing,
+            Next::BadFrame => Stage::Telling,
+            Next::Lost => Stage::Closing(SessionFault::NoMemory(self.replies)),
+        }
+    }
+
+    /// Writes some of the reply to the last message; once all of it is written, the next one may be
+    /// answered. None where the writer would have to wait.
+    #[inline(always)]
+    fn send<N: Node, W: Write>(&mut self, writer: &mut W) -> Option<Stage>
+        requires { Fits Sending self.old }
+        ensures goes { IfSome result (λ stage. (now : N) (unread : Option (List ℕ)) → Goes N.step
+            now now unread unread (W.contents writer.old) (W.contents writer.new)
+            Sending self.old stage self.new) }
+        ensures fits { IfSome result (λ stage. Fits stage self.new) }
+        ensures less { IfSome result (λ stage.
+            weight stage self.new < weight Sending self.old) }
+        ensures most { self.new.most ≡ self.old.most }
+        ensures waits { IfNone result ((self.new ≡ self.old)
+            × Keeps (W.contents writer.old) (W.contents writer.new)
+            × (0 < length self.new.buffers.unsent)) }
+    {
+        self.buffers.is_read();
+        match try_write(writer, self.buffers.pending()) {
+            Wrote::Bytes(n) => {
+                self.buffers.sent(n);
+                if self.buffers.waiting() > 0 {
+                    return Some(Stage::Sending);
+                }
+                self.replies = self.replies.saturating_add(1);
+                Some(Stage::Answering)
+            }
+            Wrote::Blocked => None,
+            Wrote::Failed => Some(Stage::Over(Err(SessionFault::WriteFailed(self.replies)))),
+        }
+    }
+
+    /// Writes some of the error for a bad length. None where the writer would have to wait.
+    fn tell<N: Node, W: Write>(&mut self, writer: &mut W) -> Option<Stage>
+        ensures goes { IfSome result (λ stage. (now : N) (unread : Option (List ℕ)) → Goes N.step
+            now now unread unread (W.contents writer.old) (W.contents writer.new)
+            Telling self.old stage self.new) }
+        ensures fits { IfSome result (λ stage. Fits stage self.new) }
+        ensures less { IfSome result (λ stage.
+            weight stage self.new < weight Telling self.old) }
+        ensures most { self.new.most ≡ self.old.most }
+        ensures waits { IfNone result ((self.new ≡ self.old)
+            × Keeps (W.contents writer.old) (W.contents writer.new)
+            × (0 < length self.new.buffers.unsent)) }
+    {
+        let replies = self.replies;
+        if self.buffers.pending().is_empty() {
+            return Some(Stage::Closing(SessionFault::BadFrame(replies)));
+        }
+        match try_write(writer, self.buffers.pending()) {
+            Wrote::Bytes(n) => {
+                self.buffers.sent(n);
+                Some(Stage::Telling)
+            }
+            Wrote::Blocked => None,
+            Wrote::Failed => Some(Stage::Over(Err(SessionFault::WriteFailed(replies)))),
+        }
+    }
+
+    /// Has what was written flushed, where a further read may be made. None where the writer would have to wait.
+    #[inline(always)]
+    fn flush<N: Node, W: Write>(&mut self, writer: &mut W) -> Option<Stage>
+        requires { Fits Flushing self.old }
+        ensures goes { IfSome result (λ stage. (now : N) (unread : Option (List ℕ)) → Goes N.step
+            now now unread unread (W.contents writer.old) (W.contents writer.new)
+            Flushing self.old stage self.new) }
+        ensures fits { IfSome result (λ stage. Fits stage self.new) }
+        ensures less { IfSome result (λ stage.
+            weight stage self.new < weight Flushing self.old) }
+        ensures most { self.new.most ≡ self.old.most }
+        ensures waits { IfNone result ((self.new ≡ self.old)
+            × Keeps (W.contents writer.old) (W.contents writer.new)) }
+    {
+        self.buffers.is_read();
+        if self.made >= self.most {
+            return Some(Stage::Closing(SessionFault::TooManyReads(self.replies)));
+        }
+        match try_flush(writer) {
+            Flushed::Done => Some(Stage::Reading),
+            Flushed::Blocked => None,
+            Flushed::Failed => Some(Stage::Over(Err(SessionFault::WriteFailed(self.replies)))),
+        }
+    }
+
+    /// Has what was written flushed, as far as that can be done. None where the writer would have to wait.
+    fn close<N: Node, W: Write>(&mut self, writer: &mut W, fault: SessionFault) -> Option<Stage>
+        ensures goes { IfSome result (λ stage. (now : N) (unread : Option (List ℕ)) → Goes N.step
+            now now unread unread (W.contents writer.old) (W.contents writer.new)
+            (Closing fault) self.old stage self.new) }
+        ensures fits { IfSome result (λ stage. Fits stage self.new) }
+        ensures less { IfSome result (λ stage.
+            weight stage self.new < weight (Closing fault) self.old) }
+        ensures most { self.new.most ≡ self.old.most }
+        ensures waits { IfNone result ((self.new ≡ self.old)
+            × Keeps (W.contents writer.old) (W.contents writer.new)) }
+    {
+        match try_flush(writer) {
+            Flushed::Done => Some(Stage::Over(Err(fault))),
+            Flushed::Blocked => None,
+            Flushed::Failed => Some(Stage::Over(Err(fault))),
+        }
+    }
+
+    /// Takes one step from a stage that isn't the last one. The stage to which it comes; None where a
+    /// stream would have to wait.
+    #[inline(always)]
+    fn advance<N: Node, R: Read, W: Write>(
+        &mut self,
+        alloc: Global,
+        reader: &mut R,
+        writer: &mut W,
+        node: &mut N,
+        scratch: &mut Scratch,
+    ) -> Option<Stage>
+        requires going { IsGoing self.old.stage }
+        requires fits { Fits self.old.stage self.old }
+        ensures goes { IfSome result (λ to. Goes N.step node.old node.new
+            (R.remaining reader.old) (R.remaining reader.new)
+            (W.contents writer.old) (W.contents writer.new)
+            self.old.stage self.old to self.new) }
+        ensures fits { IfSome result (λ to. Fits to self.new) }
+        ensures less { IfSome result (λ to.
+            weight to self.new < weight self.old.stage self.old) }
+        ensures waits { IfNone result ((self.new ≡ self.old) × (node.new ≡ node.old)
+            × Keeps (R.remaining reader.old) (R.remaining reader.new)
+            × Keeps (W.contents writer.old) (W.contents writer.new)
+            × CanWait self.old.stage self.new.buffers) }
+        ensures most { self.new.most ≡ self.old.most }
+    {
+        match self.stage {
+            Stage::Answering => Some(self.answer(alloc, node, scratch)),
+            Stage::Sending => self.send::<N, W>(writer),
+            Stage::Telling => self.tell::<N, W>(writer),
+            Stage::Flushing => self.flush::<N, W>(writer),
+            Stage::Reading => {
+                let Scratch {
+                    piece,
+                    long_piece,
+                    requests,
+                    ..
+                } = scratch;
+                self.read_some::<N, R>(alloc, reader, &*node, piece, long_piece, requests)
+            }
+            Stage::Closing(fault) => self.close::<N, W>(writer, fault),
+            Stage::Over(_) => unreachable!(),
+        }
+    }
+
+    /// What comes of a session whose stream would have to wait, where nobody waits for it: that counts as
+    /// a failure of the stream.
+    fn outcome_of_waiting<N: Node>(&self) -> Result<Ended, SessionFault>
+        requires { CanWait self.now.stage self.now.buffers }
+        ensures { (first now : N) (unread unread' held held' : Option (List ℕ))
+            → Came N.step first now unread unread' held held' self.now.stage self.now
+            → IsOverBy N.step first now unread unread' held held' self.now.most result }
+    {
+        self.buffers.is_read();
+        match self.stage {
+            Stage::Answering => unreachable!(),
+            Stage::Sending => Err(SessionFault::WriteFailed(self.replies)),
+            Stage::Telling => Err(SessionFault::WriteFailed(self.replies)),
+            Stage::Flushing => Err(SessionFault::WriteFailed(self.replies)),
+            Stage::Reading => Err(SessionFault::ReadFailed(self.replies)),
+            Stage::Closing(fault) => Err(fault),
+            Stage::Over(_) => unreachable!(),
+        }
     }
 }

@@ -6,7 +6,7 @@ ghost use Rattle.vnode_machine.specs.Asks.{get_command};
 ghost use Rattle.vnode_machine.specs.Dead.{swept};
 ghost use Rattle.vnode_machine.specs.Step.{outcome};
 ghost use Rattle.vnode_core.specs.Plans.{IsWrite};
-ghost use Rattle.node_session.specs.PlainStep.{answer_reply, StepsBy, StepsByWrite};
+ghost use Rattle.node_session.specs.PlainStep.{StepsBy, StepsByWrite};
 ghost use Rattle.node_session.specs.PlainNodes.{AnswersAndSweeps, WritesAndSweeps};
 ghost use Rattle.node_session.specs.Unsent.{PutsReply};
 
@@ -15,22 +15,7 @@ use crate::reply_frame::ReplyFrame;
 use crate::scratch::Scratch;
 use riak_msgs::{GetAsk, Reply, Text};
 use std::alloc::Global;
-use vnode_core::{Answer, Ask, Plan, Reaped, Vnode, sweep};
-
-/// The reply for a vnode's answer to a change. No request asks for a reap, and one is replied to as a
-/// delete is; of a vnode that is closed, or that was asked for a copy, it is the error `moved`. It takes
-/// no memory.
-#[inline(always)]
-pub fn answer_reply(answer: Answer) -> Reply
-    ensures { result ≡ answer_reply answer }
-{
-    match answer {
-        Answer::Put(reply) => Reply::Put(reply),
-        Answer::Del => Reply::Del,
-        Answer::Reaped(Reaped::Gone | Reaped::Kept | Reaped::Absent) => Reply::Del,
-        Answer::Copied | Answer::Stuck | Answer::Closed => Reply::Error(Text::Moved),
-    }
-}
+use vnode_core::{Ask, Plan, Vnode, sweep};
 
 /// Answers a get.
 fn answer_get(vnode: &Vnode, alloc: Global, ask: &GetAsk) -> Reply
@@ -63,8 +48,8 @@ fn answer_change(vnode: &mut Vnode, alloc: Global, ask: Ask) -> Reply
     ensures opened { vnode.new.state.closed ≡ None }
 {
     match vnode.prepare(alloc, ask) {
-        Ok(Plan::Change(change)) => answer_reply(vnode.finish(change)),
-        Ok(Plan::Nothing(answer)) => answer_reply(answer),
+        Ok(Plan::Change(change)) => Reply::from(vnode.finish(change)),
+        Ok(Plan::Nothing(answer)) => Reply::from(answer),
         Err(refusal) => Reply::Error(Text::from(refusal)),
     }
 }

@@ -78,6 +78,7 @@ impl BucketType {
     }
 
     /// A copy. One of the default takes no memory.
+    #[inline(always)]
     pub fn clone(&self, alloc: Global) -> Result<BucketType, AllocError>
         ensures { IfOk result (λ copy. copy ≡ self.now) }
     {

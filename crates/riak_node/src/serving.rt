@@ -9,7 +9,9 @@ use crate::terminal::Terminal;
 use crate::until_end::UntilEnd;
 use crate::watched_input::WatchedInput;
 use log::Log;
-use node_commands::{Controlled, ServeFault, ServedUntil, serve_as_asked, serve_as_controlled};
+use node_commands::{
+    Controlled, ServeFault, ServedUntil, ServerSettings, serve_controlled, serve_on_until,
+};
 use ring_map::Ring;
 use std::alloc::Global;
 use std::io::{BufWriter, Read, Write};
@@ -81,7 +83,11 @@ where
     requires { AsksForConsole options }
     ensures { IfOk result (IsServedAs options ring) }
 {
-    match serve_as_controlled(rt, alloc, listener, ring, options.serving, operator, writer) {
+    let settings = ServerSettings {
+        ring,
+        options: options.serving,
+    };
+    match serve_controlled(rt, alloc, listener, &settings, operator, writer) {
         Ok(outcome) => Ok(ServeOutcome::Controlled(outcome)),
         Err(fault) => Err(fault),
     }
@@ -117,11 +123,12 @@ where
         let terminal = Terminal::new(WatchedInput::new(rt, alloc, input), answers);
         return serve_by_console(rt, alloc, listener, ring, options, terminal, &mut lines);
     }
-    let (serving, until) = (
-        options.serving,
-        input_of(rt, alloc, options.until_eof, input),
-    );
-    match serve_as_asked(rt, alloc, listener, ring, serving, until, &mut lines) {
+    let until = input_of(rt, alloc, options.until_eof, input);
+    let settings = ServerSettings {
+        ring,
+        options: options.serving,
+    };
+    match serve_on_until(rt, alloc, listener, &settings, until, &mut lines) {
         Ok(outcome) => Ok(ServeOutcome::Asked(outcome)),
         Err(fault) => Err(fault),
     }

@@ -8,17 +8,17 @@ use Rattle.gate_node.specs.Gates.{Gates}
 use Rattle.session_pool.specs.declared.left.Left.{Left}
 use Rattle.session_pool.specs.Leaving.{LeavesSession}
 use Rattle.session_pool.specs.Resuming.{RunStep}
-use Rattle.session_pool.specs.Serving.{CountsInStay, RestsWhere}
-use Rattle.session_pool.specs.Suspending.{SuspendedView}
+use Rattle.session_pool.specs.Serving.{CountsInOpenSession, RestsWhere}
+use Rattle.session_pool.specs.PausedSessions.{PausedSessionView}
 use Rattle.session_pool.proofs.Gathering.{both_none}
 use Rattle.session_pool.proofs.Resting.{leaves_full}
 
-module _ {R W : Type 0} (may_rest : Type 0) (remaining : R → Option (List ℕ)) (contents : W → Option (List ℕ)) (shared : Gates) (first last : Totals) (session : SuspendedView R W) (count : Count) where
+module _ {R W : Type 0} (may_rest : Type 0) (remaining : R → Option (List ℕ)) (contents : W → Option (List ℕ)) (shared : Gates) (first last : Totals) (session : PausedSessionView R W) (count : Count) where
   -- where the worker had room for what it counted, and where not
-  pub counts_in_stay : (added : Bool) (left : Left R W) → LeavesSession remaining contents shared RunStep session count.counted count.book_full left → RestsWhere may_rest left
+  pub counts_in_open_session : (added : Bool) (left : Left R W) → LeavesSession remaining contents shared RunStep session count.counted count.book_full left → RestsWhere may_rest left
       → (added ≡ true → (count.book_full ≡ false) × (last ≡ both first count.counted)) → (added ≡ false → last ≡ first)
-      → CountsInStay may_rest remaining contents shared first session last (record { left = left; book_full = not added })
-  counts_in_stay true left leaves rests room same =
+      → CountsInOpenSession may_rest remaining contents shared first session last (record { left = left; book_full = not added })
+  counts_in_open_session true left leaves rests room same =
       let is = room refl in
       record {
         counted = count.counted;
@@ -26,7 +26,7 @@ module _ {R W : Type 0} (may_rest : Type 0) (remaining : R → Option (List ℕ)
         leaves = subst (λ (full : Bool). LeavesSession remaining contents shared RunStep session count.counted full left) is.0 leaves;
         rests = rests;
       }
-  counts_in_stay false left leaves rests room same = record {
+  counts_in_open_session false left leaves rests room same = record {
     counted = zeros;
     raised = same refl ∙ sym (both_none first);
     leaves = leaves_full remaining contents shared session count.counted zeros count.book_full left leaves;

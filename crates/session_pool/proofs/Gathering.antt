@@ -13,17 +13,17 @@ use Rattle.stats_book.specs.declared.totals.Totals.{Totals}
 use Rattle.gate_node.specs.Gates.{Gates}
 use Rattle.gate_node.specs.Passes.{Sights}
 use Rattle.session_pool.specs.declared.end_sink.SessionEnd.{SessionEnd}
-use Rattle.session_pool.specs.declared.host.LeftSession.{LeftSession}
+use Rattle.session_pool.specs.declared.session_service.LeftSession.{LeftSession}
 use Rattle.session_pool.specs.declared.left.EndedSession.{EndedSession}
 use Rattle.session_pool.specs.declared.left.Left.{Left}
 use Rattle.session_pool.specs.declared.left.Left.TheVariants.{Ended, Rests}
 use Rattle.session_pool.specs.Leaving.{IsEndOf, LeavesSession}
 use Rattle.session_pool.specs.Resuming.{RunStep}
-use Rattle.session_pool.specs.Serving.{CountsInStay, RestsWhere}
-use Rattle.session_pool.specs.Suspending.{Origin, SuspendedView}
-use Rattle.session_pool.specs.Tellers.{TellerView, IsCovered, HaveSeenLeft, HaveSeenOne, end_of, ends_in, ends_more, resting_in, rests_more, is_full, are_full, sink_of, resting_of, told_to}
+use Rattle.session_pool.specs.Serving.{CountsInOpenSession, RestsWhere}
+use Rattle.session_pool.specs.PausedSessions.{Origin, PausedSessionView}
+use Rattle.session_pool.specs.EndReporters.{EndReporterView, IsCovered, HaveSeenLeft, HaveSeenOne, end_of, ends_in, ends_more, resting_in, rests_more, is_full, are_full, sink_of, resting_of, told_to}
 use Rattle.session_pool.specs.Telling.{ToldSession, RestedSession, IsToldSession, IsRestedSession, told_of, count_told, now_of, count_rested, weight_rested, with_passes}
-use Rattle.session_pool.proofs.Tellers.{all_through}
+use Rattle.session_pool.proofs.EndReporters.{all_through}
 
 pub both_assoc : (a b c : Totals) → both (both a b) c ≡ both a (both b c)
 both_assoc a b c =
@@ -94,9 +94,9 @@ module _ {R W : Type 0} where
   weight_rested_append w [] ys = omega arith
   weight_rested_append w (x ∷ xs) ys = let rest = weight_rested_append w xs ys in omega (arith, rest)
 
-module _ {R W : Type 0} (may_rest : Type 0) (remaining : R → Option (List ℕ)) (contents : W → Option (List ℕ)) (shared : Gates) (given : List (SuspendedView R W)) (seen : Sights) where
-  abbrev Counts : Totals → SuspendedView R W → Totals → LeftSession R W → Type 0
-  Counts = CountsInStay may_rest remaining contents shared
+module _ {R W : Type 0} (may_rest : Type 0) (remaining : R → Option (List ℕ)) (contents : W → Option (List ℕ)) (shared : Gates) (given : List (PausedSessionView R W)) (seen : Sights) where
+  abbrev Counts : Totals → PausedSessionView R W → Totals → LeftSession R W → Type 0
+  Counts = CountsInOpenSession may_rest remaining contents shared
 
   abbrev IsEnded : ToldSession R W → Type 0
   IsEnded = IsToldSession remaining contents shared given seen
@@ -105,7 +105,7 @@ module _ {R W : Type 0} (may_rest : Type 0) (remaining : R → Option (List ℕ)
   IsRested = IsRestedSession remaining contents shared given may_rest
 
   -- these sessions were told so, and these rest; these are all, and counted so much
-  pub record AreGathered (told : List (NumberedEnd (LeftSession R W))) (tells : List (NumberedEnd (SessionEnd R W))) (resting : List (SuspendedView R W)) (counted : Totals) : Type 0 where
+  pub record AreGathered (told : List (NumberedEnd (LeftSession R W))) (tells : List (NumberedEnd (SessionEnd R W))) (resting : List (PausedSessionView R W)) (counted : Totals) : Type 0 where
     pub ended : List (ToldSession R W)
     pub rested : List (RestedSession R W)
     pub tells_are : map told_of ended ≡ tells
@@ -120,7 +120,7 @@ module _ {R W : Type 0} (may_rest : Type 0) (remaining : R → Option (List ℕ)
   none_gathered = record { ended = []; rested = []; tells_are = refl; each = tt; rests = refl; each_rests = tt; weighs = λ w. refl; many = refl; sums = sym (none_both zeros) }
 
   -- one more in front
-  front : (number : ℕ) (session : SuspendedView R W) (one : NumberedEnd (LeftSession R W)) (left : Left R W) (counted more : Totals) (told : List (NumberedEnd (LeftSession R W))) → one.number ≡ number → slice_get given number ≡ Some session
+  front : (number : ℕ) (session : PausedSessionView R W) (one : NumberedEnd (LeftSession R W)) (left : Left R W) (counted more : Totals) (told : List (NumberedEnd (LeftSession R W))) → one.number ≡ number → slice_get given number ≡ Some session
       → LeavesSession remaining contents shared RunStep session counted false left → RestsWhere may_rest left → HaveSeenLeft seen left
       → AreGathered told (ends_in told) (resting_in told) more → AreGathered (one ∷ told) (ends_more number left (ends_in told)) (rests_more left (resting_in told)) (both counted more)
   front number session one (Ended ended) counted more told named is leaves rests covered h =
@@ -150,7 +150,7 @@ module _ {R W : Type 0} (may_rest : Type 0) (remaining : R → Option (List ℕ)
   }
 
   -- of one worker, which came from the one state to the other
-  worker_gathered : (first last : Totals) (turns : List (ServedTurn Totals (SuspendedView R W) (LeftSession R W))) (told : List (NumberedEnd (LeftSession R W))) → TurnChain Counts first turns last → Pairwise (IsTurnOfGiven given) turns told
+  worker_gathered : (first last : Totals) (turns : List (ServedTurn Totals (PausedSessionView R W) (LeftSession R W))) (told : List (NumberedEnd (LeftSession R W))) → TurnChain Counts first turns last → Pairwise (IsTurnOfGiven given) turns told
       → is_full told ≡ false → Every (HaveSeenOne seen) told → (counted : Totals) × (last ≡ both first counted) × AreGathered told (ends_in told) (resting_in told) counted
   worker_gathered first last [] [] same h whole saw = (zeros, same ∙ sym (both_none first), none_gathered)
   worker_gathered first last [] (one ∷ told) chain h whole saw = absurd h
@@ -167,18 +167,18 @@ module _ {R W : Type 0} (may_rest : Type 0) (remaining : R → Option (List ℕ)
 
   module _ {K : Type 0} (told : K → List (NumberedEnd (SessionEnd R W))) where
     -- of all workers, each of which began from zero
-    pub all_gathered : (shares : List (WorkerTurns Totals (SuspendedView R W) (LeftSession R W))) (tellers : List (TellerView R W K)) → Every (λ (first : Totals). first ≡ zeros) (firsts_of shares) → Every (IsChain Counts) shares
-        → Pairwise (IsTold told_to given) shares tellers → Every (IsCovered told shared seen) tellers → are_full tellers ≡ false
-        → AreGathered (told_by told_to tellers) (told_by told (map sink_of tellers)) (concat (map resting_of tellers)) (sum_of (lasts_of shares))
+    pub all_gathered : (shares : List (WorkerTurns Totals (PausedSessionView R W) (LeftSession R W))) (end_reporters : List (EndReporterView R W K)) → Every (λ (first : Totals). first ≡ zeros) (firsts_of shares) → Every (IsChain Counts) shares
+        → Pairwise (IsTold told_to given) shares end_reporters → Every (IsCovered told shared seen) end_reporters → are_full end_reporters ≡ false
+        → AreGathered (told_by told_to end_reporters) (told_by told (map sink_of end_reporters)) (concat (map resting_of end_reporters)) (sum_of (lasts_of shares))
     all_gathered [] [] zero chained each stand whole = none_gathered
-    all_gathered [] (teller ∷ tellers) zero chained each stand whole = absurd each
+    all_gathered [] (end_reporter ∷ end_reporters) zero chained each stand whole = absurd each
     all_gathered (share ∷ shares) [] zero chained each stand whole = absurd each
-    all_gathered (share ∷ shares) (teller ∷ tellers) zero chained each stand whole =
-        let flags = or_false teller.book_full (are_full tellers) whole in
-        let rest = all_gathered shares tellers zero.1 chained.1 each.1 stand.1 flags.1 in
+    all_gathered (share ∷ shares) (end_reporter ∷ end_reporters) zero chained each stand whole =
+        let flags = or_false end_reporter.book_full (are_full end_reporters) whole in
+        let rest = all_gathered shares end_reporters zero.1 chained.1 each.1 stand.1 flags.1 in
         let stands = stand.0.stands in
-        let saw = all_through seen teller.seen teller.told stand.0.covers stands.seen in
-        let own = worker_gathered share.first share.last share.turns teller.told chained.0 each.0 (sym stands.full ∙ flags.0) saw in
+        let saw = all_through seen end_reporter.seen end_reporter.told stand.0.covers stands.seen in
+        let own = worker_gathered share.first share.last share.turns end_reporter.told chained.0 each.0 (sym stands.full ∙ flags.0) saw in
         let last : share.last ≡ own.0 = own.1 ∙ ap (λ (t : Totals). both t own.0) zero.0 ∙ none_both own.0 in
         let mine = own.2 in
         record {
@@ -191,9 +191,9 @@ module _ {R W : Type 0} (may_rest : Type 0) (remaining : R → Option (List ℕ)
           weighs = λ w.
               let here = mine.weighs w in
               let there = rest.weighs w in
-              let tells : weight_told w (ends_in teller.told) ≡ weight_told w (told teller.sink) = ap (weight_told w) stands.tells in
-              let ends = weight_append w (told teller.sink) (told_by told (map sink_of tellers)) in
-              let all = weight_append w teller.told (told_by told_to tellers) in
+              let tells : weight_told w (ends_in end_reporter.told) ≡ weight_told w (told end_reporter.sink) = ap (weight_told w) stands.tells in
+              let ends = weight_append w (told end_reporter.sink) (told_by told (map sink_of end_reporters)) in
+              let all = weight_append w end_reporter.told (told_by told_to end_reporters) in
               let those = weight_rested_append w mine.rested rest.rested in
               omega (arith, here, there, tells, ends, all, those);
           many =
@@ -201,7 +201,7 @@ module _ {R W : Type 0} (may_rest : Type 0) (remaining : R → Option (List ℕ)
               let there = rest.many in
               let ends = length-append mine.ended rest.ended in
               let those = length-append mine.rested rest.rested in
-              let all = length-append teller.told (told_by told_to tellers) in
+              let all = length-append end_reporter.told (told_by told_to end_reporters) in
               omega (arith, here, there, ends, those, all);
           sums =
               let a = sum_of (map count_told mine.ended) in

@@ -10,10 +10,10 @@ use Rattle.node_session.specs.declared.fault.SessionFault.{SessionFault}
 use Rattle.node_session.specs.declared.fault.SessionFault.TheVariants.{ReadFailed, WriteFailed, BadFrame, TooManyReads, NoMemory}
 use Rattle.node_session.specs.declared.stage.Stage.{Stage}
 use Rattle.node_session.specs.declared.stage.Stage.TheVariants.{Answering, Sending, Telling, Flushing, Reading, Closing, Over}
-use Rattle.node_session.specs.declared.talk.Talk.{Talk}
+use Rattle.node_session.specs.declared.session.Session.{Session}
 use Rattle.node_session.specs.Answers.{AnswersRead, AnswersInTurn}
 use Rattle.node_session.specs.Answered.{NextReply, IsError, WriteFailedAt, IsMemoryRefused}
-use Rattle.node_session.specs.Courses.{Came, IsOverBy}
+use Rattle.node_session.specs.Stages.{Came, IsOverBy}
 use Rattle.node_session.specs.Session.{Stops}
 
 module _ {S A : Type 0} (Step : S → Request → Reply → S → Type 0) (part : S → A) (keeps : (old : S) (request : Request) (reply : Reply) (new : S) → Step old request reply new → part new ≡ part old) where
@@ -58,11 +58,11 @@ module _ {S A : Type 0} (Step : S → Request → Reply → S → Type 0) (part 
     over_keeps most (Ok ended) h = let s = h.0.serves in same s.mid now s.ends.through.node ∙ run_keeps first s.messages s.replies s.mid s.run
     over_keeps most (Err fault) h = stops_keep first now h.0.input held held' fault h.0.serves
 
-    pub came_keeps : (stage : Stage) (talk : Talk) → Came Step first now unread unread' held held' stage talk → part now ≡ part first
-    came_keeps Answering talk h = run_keeps first _ _ now h.stands.run
-    came_keeps Sending talk h = read_keeps h.mid h.one.answers.said h.one.exchange.reply now h.one.answers.answers ∙ run_keeps first _ _ h.mid h.stands.run
-    came_keeps Telling talk h = run_keeps first _ _ now h.stands.run
-    came_keeps Flushing talk h = run_keeps first _ _ now h.answering.stands.run
-    came_keeps Reading talk h = run_keeps first _ _ now h.answering.stands.run
-    came_keeps (Closing fault) talk h = over_keeps talk.most (Err fault) h
-    came_keeps (Over result) talk h = over_keeps talk.most result h
+    pub came_keeps : (stage : Stage) (session : Session) → Came Step first now unread unread' held held' stage session → part now ≡ part first
+    came_keeps Answering session h = run_keeps first _ _ now h.stands.run
+    came_keeps Sending session h = read_keeps h.mid h.one.answers.said h.one.exchange.reply now h.one.answers.answers ∙ run_keeps first _ _ h.mid h.stands.run
+    came_keeps Telling session h = run_keeps first _ _ now h.stands.run
+    came_keeps Flushing session h = run_keeps first _ _ now h.answering.stands.run
+    came_keeps Reading session h = run_keeps first _ _ now h.answering.stands.run
+    came_keeps (Closing fault) session h = over_keeps session.most (Err fault) h
+    came_keeps (Over result) session h = over_keeps session.most result h

@@ -5,7 +5,7 @@ use Rattle.std.specs.Prelude.{false, Option, Some, Result, Ok, Err, slice_get, s
 use Rattle.std.specs.List.{AllZip}
 use Rattle.riak_msgs.specs.declared.Request.{Request}
 use Rattle.riak_msgs.specs.declared.Reply.{Reply}
-use Rattle.node_session.specs.Courses.{IsOverBy}
+use Rattle.node_session.specs.Stages.{IsOverBy}
 use Rattle.node_session.specs.declared.ended.Ended.{Ended}
 use Rattle.node_session.specs.declared.fault.SessionFault.{SessionFault}
 use Rattle.gate_node.specs.Gates.{Gates, HandoffView, AreNone}
@@ -20,11 +20,11 @@ use Rattle.session_pool.specs.declared.left.EndedSession.{EndedSession}
 use Rattle.session_pool.specs.Leaving.{EndsOver, IsEndOf}
 use Rattle.session_pool.specs.Legal.{ToldSessionIsLegal}
 use Rattle.session_pool.specs.Resuming.{AreDiverted, IsLater, RunStep, RunStepIn}
-use Rattle.session_pool.specs.Suspending.{Origin, SuspendedView, first_node}
+use Rattle.session_pool.specs.PausedSessions.{Origin, PausedSessionView, first_node}
 use Rattle.session_pool.specs.Telling.{ToldSession, IsToldSession, with_passes}
 use Rattle.session_pool.proofs.Mapping.{over_by}
 use Rattle.session_pool.proofs.Resuming.{end_at, stop_at}
-use Rattle.session_pool.proofs.Tellers.{seen_less}
+use Rattle.session_pool.proofs.EndReporters.{seen_less}
 
 none_set : {A : Type 0} (xs : List (Option A)) (i : ℕ) (place : Option A) (x : A) → slice_get xs i ≡ Some place → AreNone (slice_set xs i (Some x)) → ⊥
 none_set [] i place x is none = absurd (cc is)
@@ -76,7 +76,7 @@ module _ {R W : Type 0} (remaining : R → Option (List ℕ)) (contents : W → 
         session = over_at origin after origin.unread (remaining ended.reader) origin.held (contents ended.writer) origin.gates.reads ended.result reaches h.session;
       }
 
-  pub told_at : (given : List (SuspendedView R W)) (seen : Sights) (one : ToldSession R W) → AllZip IsSeen histories seen.primaries → IsToldSession remaining contents shared given seen one
+  pub told_at : (given : List (PausedSessionView R W)) (seen : Sights) (one : ToldSession R W) → AllZip IsSeen histories seen.primaries → IsToldSession remaining contents shared given seen one
       → IsEndOf remaining contents shared (RunStepIn histories shared) one.session one.counted false (with_passes one.end one.passes one.session.origin)
   told_at given seen one saw h = record {
     after = h.ends.after;
@@ -85,7 +85,7 @@ module _ {R W : Type 0} (remaining : R → Option (List ℕ)) (contents : W → 
     room = h.ends.room;
   }
 
-pub told_is_legal : {R W : Type 0} (remaining : R → Option (List ℕ)) (contents : W → Option (List ℕ)) (shared : Gates) (given : List (SuspendedView R W)) (seen : Sights) (one : ToldSession R W) → ToldSessionIsLegal remaining contents shared given seen one
+pub told_is_legal : {R W : Type 0} (remaining : R → Option (List ℕ)) (contents : W → Option (List ℕ)) (shared : Gates) (given : List (PausedSessionView R W)) (seen : Sights) (one : ToldSession R W) → ToldSessionIsLegal remaining contents shared given seen one
 told_is_legal remaining contents shared given seen one tallies count_all new none all kept shares h =
     let histories = shares.histories in
     let plain = tallies_plain shared histories tallies new none shares.of_gates shares.tallied (shares.counted all) in

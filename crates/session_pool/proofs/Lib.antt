@@ -4,8 +4,8 @@ pub mod Mapping
 pub mod Shifting
 pub mod Resuming
 pub mod Resting
-pub mod Tellers
-pub mod Stations
+pub mod EndReporters
+pub mod WorkerSetups
 pub mod Gathering
 pub mod Counted
 pub mod Summing

@@ -6,16 +6,16 @@ use Rattle.riak_msgs.specs.declared.Request.{Request}
 use Rattle.riak_msgs.specs.declared.Reply.{Reply}
 use Rattle.node_session.specs.Answers.{Answers, AnswersInTurn}
 use Rattle.node_session.specs.Answered.{AnsweredInput}
-use Rattle.node_session.specs.Courses.{Came, IsAnswering, IsIdle, IsSending, IsTelling, IsOverBy}
+use Rattle.node_session.specs.Stages.{Came, IsAnswering, IsIdle, IsSending, IsTelling, IsOverBy}
 use Rattle.node_session.specs.Nexts.{IsNextAnswered}
 use Rattle.node_session.specs.Sending.{Stands}
 use Rattle.node_session.specs.Session.{IsInputEnd, Stops}
-use Rattle.node_session.specs.Views.{SessionView, messages_of, replies_of}
+use Rattle.node_session.specs.Views.{Transcript, messages_of, replies_of}
 use Rattle.node_session.specs.declared.ended.Ended.{Ended}
 use Rattle.node_session.specs.declared.fault.SessionFault.{SessionFault}
 use Rattle.node_session.specs.declared.stage.Stage.{Stage}
 use Rattle.node_session.specs.declared.stage.Stage.TheVariants.{Answering, Sending, Telling, Flushing, Reading, Closing, Over}
-use Rattle.node_session.specs.declared.talk.Talk.{Talk}
+use Rattle.node_session.specs.declared.session.Session.{Session}
 use Rattle.node_session.proofs.Simulating.{run_like, end_like, stops_like}
 
 module _ {S T : Type 0} (Step : S → Request → Reply → S → Type 0) (Step' : T → Request → Reply → T → Type 0) (f : S → T)
@@ -36,10 +36,10 @@ module _ {S T : Type 0} (Step : S → Request → Reply → S → Type 0) (Step'
       let made = run_by s s' (m ∷ []) (reply ∷ []) (s', a, refl) in
       subst (λ (t : T). Answers Step' (f s) m reply t) (sym made.2) made.1
 
-  stands_by : (first now : S) (held held' : Option (List ℕ)) (s : SessionView) → Stands Step first now held held' s → Stands Step' (f first) (f now) held held' s
+  stands_by : (first now : S) (held held' : Option (List ℕ)) (s : Transcript) → Stands Step first now held held' s → Stands Step' (f first) (f now) held held' s
   stands_by first now held held' s h = record { run = run_by first now (messages_of s.exchanges) (replies_of s.exchanges) h.run; written = h.written }
 
-  next_by : (node node' : S) (old new : SessionView) → IsNextAnswered Step node node' old new → IsNextAnswered Step' (f node) (f node') old new
+  next_by : (node node' : S) (old new : Transcript) → IsNextAnswered Step node node' old new → IsNextAnswered Step' (f node) (f node') old new
   next_by node node' old new h = record {
     exchange = h.exchange;
     front = h.front;
@@ -53,13 +53,13 @@ module _ {S T : Type 0} (Step : S → Request → Reply → S → Type 0) (Step'
   }
 
   module _ (first now : S) (unread unread' held held' : Option (List ℕ)) where
-    answering_by : (s : SessionView) (replies made most : ℕ) → IsAnswering Step first now unread unread' held held' s replies made most → IsAnswering Step' (f first) (f now) unread unread' held held' s replies made most
+    answering_by : (s : Transcript) (replies made most : ℕ) → IsAnswering Step first now unread unread' held held' s replies made most → IsAnswering Step' (f first) (f now) unread unread' held held' s replies made most
     answering_by s replies made most h = record { read = h.read; stands = stands_by first now held held' s h.stands; going = h.going }
 
-    idle_by : (s : SessionView) (replies made most : ℕ) → IsIdle Step first now unread unread' held held' s replies made most → IsIdle Step' (f first) (f now) unread unread' held held' s replies made most
+    idle_by : (s : Transcript) (replies made most : ℕ) → IsIdle Step first now unread unread' held held' s replies made most → IsIdle Step' (f first) (f now) unread unread' held held' s replies made most
     idle_by s replies made most h = record { answering = answering_by s replies made most h.answering; partial = h.partial }
 
-    sending_by : (s : SessionView) (replies made most : ℕ) → IsSending Step first now unread unread' held held' s replies made most → IsSending Step' (f first) (f now) unread unread' held held' s replies made most
+    sending_by : (s : Transcript) (replies made most : ℕ) → IsSending Step first now unread unread' held held' s replies made most → IsSending Step' (f first) (f now) unread unread' held held' s replies made most
     sending_by s replies made most h = record {
       mid = f h.mid;
       before = h.before;
@@ -73,7 +73,7 @@ module _ {S T : Type 0} (Step : S → Request → Reply → S → Type 0) (Step'
       part = h.part;
     }
 
-    telling_by : (s : SessionView) (replies made most : ℕ) → IsTelling Step first now unread unread' held held' s replies made most → IsTelling Step' (f first) (f now) unread unread' held held' s replies made most
+    telling_by : (s : Transcript) (replies made most : ℕ) → IsTelling Step first now unread unread' held held' s replies made most → IsTelling Step' (f first) (f now) unread unread' held held' s replies made most
     telling_by s replies made most h = record {
       before = h.before;
       whole = h.whole;
@@ -100,11 +100,11 @@ module _ {S T : Type 0} (Step : S → Request → Reply → S → Type 0) (Step'
     over_by most (Ok e) h = (record { input = h.0.input; read = h.0.read; bound = h.0.bound; serves = end_by h.0.input e.replies e.rest h.0.serves }, h.1)
     over_by most (Err fault) h = (record { input = h.0.input; read = h.0.read; bound = h.0.bound; serves = stops_by h.0.input fault h.0.serves }, h.1)
 
-    pub came_by : (stage : Stage) (talk : Talk) → Came Step first now unread unread' held held' stage talk → Came Step' (f first) (f now) unread unread' held held' stage talk
-    came_by Answering talk h = answering_by talk.session talk.replies talk.made talk.most h
-    came_by Sending talk h = sending_by talk.session talk.replies talk.made talk.most h
-    came_by Telling talk h = telling_by talk.session talk.replies talk.made talk.most h
-    came_by Flushing talk h = idle_by talk.session talk.replies talk.made talk.most h
-    came_by Reading talk h = idle_by talk.session talk.replies talk.made talk.most h
-    came_by (Closing fault) talk h = over_by talk.most (Err fault) h
-    came_by (Over result) talk h = over_by talk.most result h
+    pub came_by : (stage : Stage) (session : Session) → Came Step first now unread unread' held held' stage session → Came Step' (f first) (f now) unread unread' held held' stage session
+    came_by Answering session h = answering_by session.buffers session.replies session.made session.most h
+    came_by Sending session h = sending_by session.buffers session.replies session.made session.most h
+    came_by Telling session h = telling_by session.buffers session.replies session.made session.most h
+    came_by Flushing session h = idle_by session.buffers session.replies session.made session.most h
+    came_by Reading session h = idle_by session.buffers session.replies session.made session.most h
+    came_by (Closing fault) session h = over_by session.most (Err fault) h
+    came_by (Over result) session h = over_by session.most result h

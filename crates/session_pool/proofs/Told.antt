@@ -19,12 +19,12 @@ use Rattle.gate_node.specs.Passes.{Sights}
 use Rattle.gate_node.specs.declared.fault.PoolFault.{PoolFault}
 use Rattle.gate_node.specs.declared.fault.PoolFault.TheVariants.{NoMemory, NoThread, JobsFailed, BookFull}
 use Rattle.session_pool.specs.declared.end_sink.SessionEnd.{SessionEnd}
-use Rattle.session_pool.specs.declared.host.LeftSession.{LeftSession}
-use Rattle.session_pool.specs.declared.served.Served.{Served}
-use Rattle.session_pool.specs.Serving.{CountsInStay}
+use Rattle.session_pool.specs.declared.session_service.LeftSession.{LeftSession}
+use Rattle.session_pool.specs.declared.served_sessions.ServedSessions.{ServedSessions}
+use Rattle.session_pool.specs.Serving.{CountsInOpenSession}
 use Rattle.session_pool.specs.Settling.{Settles, AreTooMany, IsFaultAfterTold, pool_fault}
-use Rattle.session_pool.specs.Suspending.{SuspendedView}
-use Rattle.session_pool.specs.Tellers.{TellerView, IsCovered, is_full, are_full, sink_of, told_to}
+use Rattle.session_pool.specs.PausedSessions.{PausedSessionView}
+use Rattle.session_pool.specs.EndReporters.{EndReporterView, IsCovered, is_full, are_full, sink_of, told_to}
 use Rattle.session_pool.specs.Telling.{TellsSource, LeavesTold, GavePastFullBook, GavePastSums, count_told, count_rested, told_of}
 use Rattle.session_pool.proofs.Gathering.{all_gathered, none_both, number_both}
 
@@ -49,12 +49,12 @@ or_true : (a b : Bool) → (a || b) ≡ true → (a ≡ true) ⊎ (b ≡ true)
 or_true true b h = inl refl
 or_true false b h = inr h
 
-module _ {J R W K : Type 0} (Gives : J → Result (Option (SuspendedView R W)) JobFault → J → Type 0) (may_rest : Type 0) (remaining : R → Option (List ℕ)) (contents : W → Option (List ℕ)) (told : K → List (NumberedEnd (SessionEnd R W))) (shared : Gates) (first last : J) where
-  abbrev Counts : Totals → SuspendedView R W → Totals → LeftSession R W → Type 0
-  Counts = CountsInStay may_rest remaining contents shared
+module _ {J R W K : Type 0} (Gives : J → Result (Option (PausedSessionView R W)) JobFault → J → Type 0) (may_rest : Type 0) (remaining : R → Option (List ℕ)) (contents : W → Option (List ℕ)) (told : K → List (NumberedEnd (SessionEnd R W))) (shared : Gates) (first last : J) where
+  abbrev Counts : Totals → PausedSessionView R W → Totals → LeftSession R W → Type 0
+  Counts = CountsInOpenSession may_rest remaining contents shared
 
-  module _ (given : List (SuspendedView R W)) (gave : GaveAll Gives first given last) where
-    full_turn : (before after : Totals) (turns : List (ServedTurn Totals (SuspendedView R W) (LeftSession R W))) (ends : List (NumberedEnd (LeftSession R W))) → TurnChain Counts before turns after → Pairwise (IsTurnOfGiven given) turns ends → is_full ends ≡ true
+  module _ (given : List (PausedSessionView R W)) (gave : GaveAll Gives first given last) where
+    full_turn : (before after : Totals) (turns : List (ServedTurn Totals (PausedSessionView R W) (LeftSession R W))) (ends : List (NumberedEnd (LeftSession R W))) → TurnChain Counts before turns after → Pairwise (IsTurnOfGiven given) turns ends → is_full ends ≡ true
         → GavePastFullBook Gives may_rest remaining contents shared first last
     full_turn before after [] [] chain h full = absurd (cc full)
     full_turn before after [] (one ∷ ends) chain h full = absurd h
@@ -75,28 +75,28 @@ module _ {J R W K : Type 0} (Gives : J → Result (Option (SuspendedView R W)) J
       | inr later ↦ full_turn turn.after after turns ends chain.2 h.1 later
     ]
 
-    full_session : (seen : Sights) (shares : List (WorkerTurns Totals (SuspendedView R W) (LeftSession R W))) (tellers : List (TellerView R W K)) → Every (IsChain Counts) shares → Pairwise (IsTold told_to given) shares tellers
-        → Every (IsCovered told shared seen) tellers → are_full tellers ≡ true → GavePastFullBook Gives may_rest remaining contents shared first last
+    full_session : (seen : Sights) (shares : List (WorkerTurns Totals (PausedSessionView R W) (LeftSession R W))) (end_reporters : List (EndReporterView R W K)) → Every (IsChain Counts) shares → Pairwise (IsTold told_to given) shares end_reporters
+        → Every (IsCovered told shared seen) end_reporters → are_full end_reporters ≡ true → GavePastFullBook Gives may_rest remaining contents shared first last
     full_session seen [] [] chained each stand full = absurd (cc full)
-    full_session seen [] (teller ∷ tellers) chained each stand full = absurd each
+    full_session seen [] (end_reporter ∷ end_reporters) chained each stand full = absurd each
     full_session seen (share ∷ shares) [] chained each stand full = absurd each
-    full_session seen (share ∷ shares) (teller ∷ tellers) chained each stand full = elim (or_true teller.book_full (are_full tellers) full) [
-      | inl here ↦ full_turn share.first share.last share.turns teller.told chained.0 each.0 (sym stand.0.stands.full ∙ here)
-      | inr later ↦ full_session seen shares tellers chained.1 each.1 stand.1 later
+    full_session seen (share ∷ shares) (end_reporter ∷ end_reporters) chained each stand full = elim (or_true end_reporter.book_full (are_full end_reporters) full) [
+      | inl here ↦ full_turn share.first share.last share.turns end_reporter.told chained.0 each.0 (sym stand.0.stands.full ∙ here)
+      | inr later ↦ full_session seen shares end_reporters chained.1 each.1 stand.1 later
     ]
 
-    module _ (firsts workers : List Totals) (tellers : List (TellerView R W K)) (count away : ℕ) (once : ToldOnce Counts told_to given firsts workers tellers count away) where
+    module _ (firsts workers : List Totals) (end_reporters : List (EndReporterView R W K)) (count away : ℕ) (once : ToldOnce Counts told_to given firsts workers end_reporters count away) where
       -- there are as many sinks as workers were started
-      pub tellers_count : length tellers ≡ length firsts
-      tellers_count = sym (pairwise_length (IsTold told_to given) once.shares tellers once.each) ∙ sym (length-map once.shares (λ (share : WorkerTurns Totals (SuspendedView R W) (LeftSession R W)). share.first)) ∙ ap length once.began
+      pub end_reporters_count : length end_reporters ≡ length firsts
+      end_reporters_count = sym (pairwise_length (IsTold told_to given) once.shares end_reporters once.each) ∙ sym (length-map once.shares (λ (share : WorkerTurns Totals (PausedSessionView R W) (LeftSession R W)). share.first)) ∙ ap length once.began
 
       module _ (before seen : Sights) (more : HaveSeenAllOf seen before) where
         -- what the workers' run told, and what is left of it
-        pub tells_source : Every (λ (t : Totals). t ≡ zeros) firsts → (served : Served R W K) → Settles told shared workers tellers count away seen served → TellsSource may_rest remaining contents told shared Gives first before served last seen
+        pub tells_source : Every (λ (t : Totals). t ≡ zeros) firsts → (served : ServedSessions R W K) → Settles told shared workers end_reporters count away seen served → TellsSource may_rest remaining contents told shared Gives first before served last seen
         tells_source zero served left =
             let began = subst (Every (λ (t : Totals). t ≡ zeros)) (sym once.began) zero in
-            let all = all_gathered may_rest remaining contents shared given seen told once.shares tellers began once.chained once.each left.stand left.whole in
-            let sinks : told_by told served.sinks.items ≡ told_by told (map sink_of tellers) = ap (told_by told) left.sinks in
+            let all = all_gathered may_rest remaining contents shared given seen told once.shares end_reporters began once.chained once.each left.stand left.whole in
+            let sinks : told_by told served.sinks.items ≡ told_by told (map sink_of end_reporters) = ap (told_by told) left.sinks in
             let refused : served.refused ≡ length once.refusals = left.refused ∙ once.others in (
               given,
               gave,
@@ -109,7 +109,7 @@ module _ {J R W K : Type 0} (Gives : J → Result (Option (SuspendedView R W)) J
                 rests = all.rests ∙ ap concat (sym left.resting);
                 each_rests = all.each_rests;
                 once = λ w.
-                    let tells : weight_told w (told_by told served.sinks.items) ≡ weight_told w (told_by told (map sink_of tellers)) = ap (weight_told w) sinks in
+                    let tells : weight_told w (told_by told served.sinks.items) ≡ weight_told w (told_by told (map sink_of end_reporters)) = ap (weight_told w) sinks in
                     let weighs = all.weighs w in
                     let is = once.once w in
                     omega (arith, tells, weighs, is);
@@ -128,10 +128,10 @@ module _ {J R W K : Type 0} (Gives : J → Result (Option (SuspendedView R W)) J
 
       module _ (zero : Every (λ (t : Totals). t ≡ zeros) firsts) (seen : Sights) where
         -- where no session met a full book, and the workers have too many together
-        past_sums : are_full tellers ≡ false → ArePastFull zeros (sum_of workers) → Every (IsCovered told shared seen) tellers → GavePastSums Gives may_rest remaining contents shared first last
+        past_sums : are_full end_reporters ≡ false → ArePastFull zeros (sum_of workers) → Every (IsCovered told shared seen) end_reporters → GavePastSums Gives may_rest remaining contents shared first last
         past_sums whole past stand =
             let began = subst (Every (λ (t : Totals). t ≡ zeros)) (sym once.began) zero in
-            let all = all_gathered may_rest remaining contents shared given seen told once.shares tellers began once.chained once.each stand whole in
+            let all = all_gathered may_rest remaining contents shared given seen told once.shares end_reporters began once.chained once.each stand whole in
             let sums : both zeros (sum_of workers) ≡ both (sum_of (map count_told all.ended)) (sum_of (map count_rested all.rested)) = none_both (sum_of workers) ∙ ap sum_of (sym once.left) ∙ all.sums in
             record {
               given = given;
@@ -143,21 +143,21 @@ module _ {J R W K : Type 0} (Gives : J → Result (Option (SuspendedView R W)) J
               each = all.each;
               each_rests = all.each_rests;
               once = λ w.
-                  let tells : weight_told w (map told_of all.ended) ≡ weight_told w (told_by told (map sink_of tellers)) = ap (weight_told w) all.tells_are in
+                  let tells : weight_told w (map told_of all.ended) ≡ weight_told w (told_by told (map sink_of end_reporters)) = ap (weight_told w) all.tells_are in
                   let weighs = all.weighs w in
                   let is = once.once w in
                   omega (arith, tells, weighs, is);
               past = past_by zeros (sum_of workers) (sum_of (map count_told all.ended)) (sum_of (map count_rested all.rested)) sums past;
             }
 
-        too_many : AreTooMany told shared workers tellers → Every (IsCovered told shared seen) tellers → LeavesTold Gives may_rest remaining contents shared BookFull first last
+        too_many : AreTooMany told shared workers end_reporters → Every (IsCovered told shared seen) end_reporters → LeavesTold Gives may_rest remaining contents shared BookFull first last
         too_many h stand = elim h [
-          | inl full ↦ inl (full_session seen once.shares tellers once.chained once.each stand full)
+          | inl full ↦ inl (full_session seen once.shares end_reporters once.chained once.each stand full)
           | inr sums ↦ inr (past_sums sums.0 sums.1 stand)
         ]
 
         -- and where it ends behind that
-        pub leaves_told : (fault : PoolFault) → IsFaultAfterTold told shared workers tellers seen fault → LeavesTold Gives may_rest remaining contents shared fault first last
+        pub leaves_told : (fault : PoolFault) → IsFaultAfterTold told shared workers end_reporters seen fault → LeavesTold Gives may_rest remaining contents shared fault first last
         leaves_told NoMemory h = absurd h
         leaves_told NoThread h = absurd h
         leaves_told JobsFailed h = absurd h

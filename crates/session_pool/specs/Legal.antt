@@ -6,7 +6,7 @@ use Rattle.gate_node.specs.Passes.{Sights, ArePassesOf}
 use Rattle.gate_node.specs.Plain.{AnswersAsRegister, AreLegal}
 use Rattle.gate_node.specs.Tallies.{GateHistory, Tally}
 use Rattle.session_pool.specs.Leaving.{IsEndOf}
-use Rattle.session_pool.specs.Suspending.{SuspendedView}
+use Rattle.session_pool.specs.PausedSessions.{PausedSessionView}
 use Rattle.session_pool.specs.Telling.{ToldSession, IsToldSession, with_passes}
 
 module _ {R W : Type 0} (remaining : R → Option (List ℕ)) (contents : W → Option (List ℕ)) (shared : Gates) where
@@ -16,7 +16,7 @@ module _ {R W : Type 0} (remaining : R → Option (List ℕ)) (contents : W → 
     pub ends : IsEndOf remaining contents shared (AnswersAsRegister shared histories) one.session one.counted false (with_passes one.end one.passes one.session.origin)
 
   -- so it is where no partition of a new run has a fallback, and tallies which count all of the histories are of what these passes have seen
-  abbrev pub ToldSessionIsLegal : List (SuspendedView R W) → Sights → ToldSession R W → Type 0
+  abbrev pub ToldSessionIsLegal : List (PausedSessionView R W) → Sights → ToldSession R W → Type 0
   ToldSessionIsLegal given seen one = (tallies : List Tally) (count_all : Bool)
       → AreOfNewRun shared.run shared.gates → AreNone shared.fallbacks → count_all ≡ true → ArePassesOf shared seen
       → (shares : ShareHistories (λ (s : Sights). s) shared.gates (seen ∷ []) tallies count_all)

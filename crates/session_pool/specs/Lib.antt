@@ -1,9 +1,9 @@
 -- The definitions of this crate.
 pub mod Resuming
-pub mod Suspending
+pub mod PausedSessions
 pub mod Leaving
 pub mod Serving
-pub mod Tellers
+pub mod EndReporters
 pub mod Telling
 pub mod Settling
 pub mod Legal

@@ -15,13 +15,13 @@ use Rattle.gate_node.specs.Passes.{Sights}
 use Rattle.gate_node.specs.declared.fault.PoolFault.{PoolFault}
 use Rattle.gate_node.specs.declared.fault.PoolFault.TheVariants.{NoMemory, NoThread, JobsFailed, BookFull}
 use Rattle.session_pool.specs.declared.end_sink.SessionEnd.{SessionEnd}
-use Rattle.session_pool.specs.declared.host.LeftSession.{LeftSession}
+use Rattle.session_pool.specs.declared.session_service.LeftSession.{LeftSession}
 use Rattle.session_pool.specs.declared.left.EndedSession.{EndedSession}
-use Rattle.session_pool.specs.declared.served.Served.{Served}
+use Rattle.session_pool.specs.declared.served_sessions.ServedSessions.{ServedSessions}
 use Rattle.session_pool.specs.Leaving.{EndsOver, IsEndOf}
 use Rattle.session_pool.specs.Resuming.{RunStep}
-use Rattle.session_pool.specs.Serving.{CountsInStay}
-use Rattle.session_pool.specs.Suspending.{Origin, SuspendedView, RestsAgain}
+use Rattle.session_pool.specs.Serving.{CountsInOpenSession}
+use Rattle.session_pool.specs.PausedSessions.{Origin, PausedSessionView, RestsAgain}
 
 -- the end of a session that left these passes and began there
 abbrev pub with_passes : {R W : Type 0} → SessionEnd R W → Sights → Origin → EndedSession R W
@@ -34,7 +34,7 @@ IsToldEnd remaining contents shared origin end = (passes : Sights) × (after : N
 -- a session of which a sink was told the end: its number, the session as it was given, its end, the passes that it left, and what it counted
 pub record ToldSession (R W : Type 0) : Type 0 where
   pub number : ℕ
-  pub session : SuspendedView R W
+  pub session : PausedSessionView R W
   pub end : SessionEnd R W
   pub passes : Sights
   pub counted : Totals
@@ -42,8 +42,8 @@ pub record ToldSession (R W : Type 0) : Type 0 where
 -- one that rests: its number, the session as it was given and as it is now, and what it counted
 pub record RestedSession (R W : Type 0) : Type 0 where
   pub number : ℕ
-  pub session : SuspendedView R W
-  pub now : SuspendedView R W
+  pub session : PausedSessionView R W
+  pub now : PausedSessionView R W
   pub counted : Totals
 
 module _ {R W : Type 0} where
@@ -54,7 +54,7 @@ module _ {R W : Type 0} where
   abbrev pub count_told : ToldSession R W → Totals
   count_told one = one.counted
 
-  abbrev pub now_of : RestedSession R W → SuspendedView R W
+  abbrev pub now_of : RestedSession R W → PausedSessionView R W
   now_of one = one.now
 
   abbrev pub count_rested : RestedSession R W → Totals
@@ -65,7 +65,7 @@ module _ {R W : Type 0} where
   weight_rested w [] = 0
   weight_rested w (one ∷ rest) = w one.number + weight_rested w rest
 
-  module _ (remaining : R → Option (List ℕ)) (contents : W → Option (List ℕ)) (shared : Gates) (given : List (SuspendedView R W)) where
+  module _ (remaining : R → Option (List ℕ)) (contents : W → Option (List ℕ)) (shared : Gates) (given : List (PausedSessionView R W)) where
     -- it is the one of its number, and came to this end; the passes that it left have seen no more than these
     pub record IsToldSession (seen : Sights) (one : ToldSession R W) : Type 0 where
       pub given_as : slice_get given one.number ≡ Some one.session
@@ -82,7 +82,7 @@ module _ {R W : Type 0} where
     -- What the sinks were told are the ends of these sessions, and these rest. Each that was given is one of them or was refused, once, since whatever
     -- their numbers weigh, the sums are the same. What was seen of the gates by those that are over these passes have seen too, and what they had seen
     -- before. The totals are what they counted.
-    pub record TellsAll (given : List (SuspendedView R W)) (first : Sights) (served : Served R W K) (seen : Sights) : Type 0 where
+    pub record TellsAll (given : List (PausedSessionView R W)) (first : Sights) (served : ServedSessions R W K) (seen : Sights) : Type 0 where
       pub ended : List (ToldSession R W)
       pub rested : List (RestedSession R W)
       pub refusals : List ℕ
@@ -98,27 +98,27 @@ module _ {R W : Type 0} where
       pub totals : served.totals ≡ both (sum_of (map count_told ended)) (sum_of (map count_rested rested))
 
     -- so were all sessions of a source
-    abbrev pub TellsSource : {J : Type 0} → (J → Result (Option (SuspendedView R W)) JobFault → J → Type 0) → J → Sights → Served R W K → J → Sights → Type 0
-    TellsSource Gives first before served last seen = (given : List (SuspendedView R W)) × GaveAll Gives first given last × TellsAll given before served seen
+    abbrev pub TellsSource : {J : Type 0} → (J → Result (Option (PausedSessionView R W)) JobFault → J → Type 0) → J → Sights → ServedSessions R W K → J → Sights → Type 0
+    TellsSource Gives first before served last seen = (given : List (PausedSessionView R W)) × GaveAll Gives first given last × TellsAll given before served seen
 
-module _ {J R W : Type 0} (Gives : J → Result (Option (SuspendedView R W)) JobFault → J → Type 0) (may_rest : Type 0) (remaining : R → Option (List ℕ)) (contents : W → Option (List ℕ)) (shared : Gates) where
+module _ {J R W : Type 0} (Gives : J → Result (Option (PausedSessionView R W)) JobFault → J → Type 0) (may_rest : Type 0) (remaining : R → Option (List ℕ)) (contents : W → Option (List ℕ)) (shared : Gates) where
   -- all sessions were given, and at the end of one of them its worker had no room for what it had counted
   pub record GavePastFullBook (first last : J) : Type 0 where
-    pub given : List (SuspendedView R W)
+    pub given : List (PausedSessionView R W)
     pub all : GaveAll Gives first given last
     pub number : ℕ
-    pub session : SuspendedView R W
+    pub session : PausedSessionView R W
     pub is : slice_get given number ≡ Some session
     pub before : Totals
     pub after : Totals
     pub one : LeftSession R W
-    pub counts : CountsInStay may_rest remaining contents shared before session after one
+    pub counts : CountsInOpenSession may_rest remaining contents shared before session after one
     pub full : one.book_full ≡ true
 
   -- All sessions were given; these ended, these rest and the others were refused, each once, and at none of their ends a worker had no room. But what
   -- they counted would pass the last number of some quantity together.
   pub record GavePastSums (first last : J) : Type 0 where
-    pub given : List (SuspendedView R W)
+    pub given : List (PausedSessionView R W)
     pub all : GaveAll Gives first given last
     pub seen : Sights
     pub ended : List (ToldSession R W)

@@ -6,11 +6,11 @@ ghost use Rattle.riak_msgs.specs.declared.Reply.{Reply};
 ghost use Rattle.stats_book.specs.declared.totals.Totals.{Totals};
 ghost use Rattle.node_session.specs.Answers.{AnswersInTurn};
 ghost use Rattle.node_session.specs.Answered.{AnsweredInput};
-ghost use Rattle.node_session.specs.Courses.{Came};
+ghost use Rattle.node_session.specs.Stages.{Came};
 ghost use Rattle.node_session.specs.Session.{IsInputEnd, Stops};
 ghost use Rattle.node_session.specs.declared.fault.SessionFault.{SessionFault};
 ghost use Rattle.node_session.specs.declared.stage.Stage.{Stage};
-ghost use Rattle.node_session.specs.declared.talk.Talk.{Talk};
+ghost use Rattle.node_session.specs.declared.session.Session.{Session};
 ghost use Rattle.gate_node.specs.GateStep.{NodeOverGates};
 ghost use Rattle.gate_node.specs.Gates.{Gates};
 ghost use Rattle.gate_node.specs.OneHistory.{IsSeen};
@@ -18,7 +18,7 @@ ghost use Rattle.gate_node.specs.Tallies.{GateHistory};
 ghost use Rattle.gate_node.specs.Passes.{Sights};
 ghost use Rattle.session_pool.specs.Leaving.{IsEndOf};
 ghost use Rattle.session_pool.specs.Legal.{ToldSessionIsLegal};
-ghost use Rattle.session_pool.specs.Suspending.{SuspendedView};
+ghost use Rattle.session_pool.specs.PausedSessions.{PausedSessionView};
 ghost use Rattle.session_pool.specs.Telling.{ToldSession, IsToldSession, with_passes};
 ghost use Rattle.session_pool.specs.Resuming.{IsLater, ArePassesLater, RunNodeView, RunStep};
 ghost use Rattle.session_pool.specs.Resuming.{RunNodeStep, RunStepIn, standing};
@@ -36,14 +36,14 @@ pub fn sessions_stay_in_their_run()
 /// then; and by such steps it has come as far for the node by which it goes on, over whatever gates, since that stands where it rested.
 pub fn sessions_go_on()
     ensures so_far { (first now : RunNodeView) (unread unread' held held' : Option (List ℕ))
-        (stage : Stage) (talk : Talk)
-        → Came RunNodeStep first now unread unread' held held' stage talk
-        → Came RunStep first.stands now.stands unread unread' held held' stage talk }
+        (stage : Stage) (session : Session)
+        → Came RunNodeStep first now unread unread' held held' stage session
+        → Came RunStep first.stands now.stands unread unread' held held' stage session }
     ensures further { (over : Gates) (before : Totals) (first now : NodeOverGates)
-        (unread unread' held held' : Option (List ℕ)) (stage : Stage) (talk : Talk)
-        → Came RunStep first now unread unread' held held' stage talk
+        (unread unread' held held' : Option (List ℕ)) (stage : Stage) (session : Session)
+        → Came RunStep first now unread unread' held held' stage session
         → Came RunNodeStep (standing over before first) (standing over before now)
-        unread unread' held held' stage talk }
+        unread unread' held held' stage session }
 {}
 
 /// Where the passes of a session have in the end seen beginnings of one list of histories, those of the primaries, each of its replies that isn't a
@@ -69,7 +69,7 @@ pub fn sessions_are_at_positions()
 pub fn told_sessions_are_at_positions<R, W>()
     ensures { (remaining : R → Option (List ℕ)) (contents : W → Option (List ℕ))
         (histories : List GateHistory) (shared : Gates)
-        (given : List (SuspendedView R W)) (seen : Sights) (one : ToldSession R W)
+        (given : List (PausedSessionView R W)) (seen : Sights) (one : ToldSession R W)
         → AllZip IsSeen histories seen.primaries
         → IsToldSession remaining contents shared given seen one
         → IsEndOf remaining contents shared (RunStepIn histories shared)
@@ -83,7 +83,7 @@ pub fn told_sessions_are_at_positions<R, W>()
 /// new run `Shared` says.
 pub fn told_sessions_are_legal<R, W>()
     ensures { (remaining : R → Option (List ℕ)) (contents : W → Option (List ℕ))
-        (shared : Gates) (given : List (SuspendedView R W)) (seen : Sights)
+        (shared : Gates) (given : List (PausedSessionView R W)) (seen : Sights)
         (one : ToldSession R W)
         → ToldSessionIsLegal remaining contents shared given seen one }
 {}

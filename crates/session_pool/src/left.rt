@@ -2,8 +2,8 @@
 ghost use Rattle.std.specs.Prelude.{◌≡◌};
 ghost use Rattle.session_pool.specs.Leaving.{IsLeftAs};
 
+use crate::paused_session::PausedSession;
 use crate::rest::Began;
-use crate::suspended::Suspended;
 use gate_node::Passes;
 use node_session::{Ended, Scratch, SessionFault};
 use std::io::{Read, Write};
@@ -24,19 +24,19 @@ pub enum Left<R: Read, W: Write> {
     /// It is over.
     Ended(EndedSession<R, W>),
     /// It rests.
-    Rests(Suspended<R, W>),
+    Rests(PausedSession<R, W>),
 }
 
-impl<R: Read, W: Write> Suspended<R, W> {
+impl<R: Read, W: Write> PausedSession<R, W> {
     /// Ends it, where it is over; else it rests. The room that was lent to one that is over goes back.
     pub(crate) fn settle(self, scratch: &mut Scratch) -> Left<R, W>
         ensures { IsLeftAs R.remaining W.contents self result }
     {
-        let Some(result) = self.course.outcome() else {
+        let Some(result) = self.session.outcome() else {
             return Left::Rests(self);
         };
-        let Suspended {
-            course,
+        let PausedSession {
+            session,
             reader,
             writer,
             passes,
@@ -44,7 +44,7 @@ impl<R: Read, W: Write> Suspended<R, W> {
             origin,
             over: _,
         } = self;
-        course.end(scratch);
+        session.end(scratch);
         Left::Ended(EndedSession {
             result,
             reader,

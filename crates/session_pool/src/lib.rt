@@ -1,22 +1,22 @@
 //! Workers that serve sessions over the gates of a run, and can lay them down between two of their steps.
 //!
 //! What it means: [`serve`] takes all sessions of a source, each new or one that rested, and serves
-//! each to its end, or, once its pause is raised, until its next turn. A [`Suspended`] session has
+//! each to its end, or, once its pause is raised, until its next turn. A [`PausedSession`] has
 //! come so far from its first read on; nothing that it has read is lost, nor anything that it has
 //! to send. It goes on by a later run, over the same gates or over what these became by diversions.
 //!
 //! ```text
 //! let mut seen = Passes::new(alloc, &shared)?;
 //! // as many as are wanted, by a source of jobs
-//! let first = Suspended::new(alloc, &shared, passes, reader, writer);
-//! let served = serve(&rt, alloc, &shared, &mut sessions, seats, &Open, &pause, &mut seen)?;
+//! let first = PausedSession::new(alloc, &shared, passes, reader, writer);
+//! let served = serve(&rt, alloc, &shared, &mut sessions, serving_setups, &Open, &pause, &mut seen)?;
 //! // had an answer half written, say
 //! served.resting
 //! let mut handoff = shared.into_handoff();
 //! handoff.divert(alloc, 0)?;
 //! let later = Shared::over(handoff, budget, reads);
 //! // it sends the rest, and goes on at the fallback
-//! serve(&rt, alloc, &later, &mut resting, seats, &Open, &NoPause, &mut seen)?
+//! serve(&rt, alloc, &later, &mut resting, serving_setups, &Open, &NoPause, &mut seen)?
 //! // of one history of each vnode, through both runs
 //! tallies_of(&rt, alloc, &later, slice::from_ref(&seen))
 //! ```
@@ -25,15 +25,15 @@
 //! takes its streams, its passes and what it has in part, as one that is open does; to lay it down
 //! and to go on take no memory, beside a place for each that a worker has open.
 //!
-//! How it is built: an open session ([`Stay`]) is served by [`Host`], a service of `job_pool`,
-//! which a run that keeps its ends may take too. The session has a node of its own, over its
-//! passes, which counts by itself, and when it is left its worker ([`Tray`]) adds what it has
-//! counted. So what a step changes is that session's alone. For clauses its node ([`RunNode`])
-//! stands where the session rested, until its next step is taken over the gates as they are then.
-//! So what was said of the session so far is said of it. What says where is a [`Rest`], which has
-//! no bytes. Of two passes of a gate the one behind has seen a beginning of what the other has: so
-//! passes that are laid together with those of each session that is over have seen all that these
-//! had, through as many runs as are wanted.
+//! How it is built: an open session ([`OpenSession`]) is served by [`SessionService`], a service of
+//! `job_pool`, which a run that keeps its ends may take too. The session has a node of its own,
+//! over its passes, which counts by itself, and when it is left its worker ([`WorkerState`]) adds
+//! what it has counted. So what a step changes is that session's alone. For clauses its node
+//! ([`RunNode`]) stands where the session rested, until its next step is taken over the gates as
+//! they are then. So what was said of the session so far is said of it. What says where is a
+//! [`Rest`], which has no bytes. Of two passes of a gate the one behind has seen a beginning of
+//! what the other has: so passes that are laid together with those of each session that is over
+//! have seen all that these had, through as many runs as are wanted.
 //!
 //! # Proved
 //!
@@ -49,8 +49,9 @@
 //! sessions were given. In one of them a number would have passed the last one, or the sum over
 //! the workers would.
 //!
-//! By `serve`, `Suspended::new`; laws `told_sessions_are_at_positions`, `told_sessions_are_legal`,
-//! `sessions_go_on`, `sessions_stay_in_their_run`, `sessions_are_at_positions`.
+//! By `serve`, `PausedSession::new`; laws `told_sessions_are_at_positions`,
+//! `told_sessions_are_legal`, `sessions_go_on`, `sessions_stay_in_their_run`,
+//! `sessions_are_at_positions`.
 //!
 //! # Tested
 //!
@@ -65,29 +66,28 @@
 //! - That the fallback of a diverted partition has one history for all connections.
 #![tactic(auto)]
 
+mod end_reporter;
 mod end_sink;
-mod host;
 mod kept;
 mod laws;
 mod left;
 mod live_counts;
+mod open_session;
 mod pause;
+mod paused_session;
 mod pool;
 mod rest;
 mod run_node;
-mod seat;
-mod served;
+mod served_sessions;
+mod serving_setup;
+mod session_service;
 mod settle;
-mod station;
-mod stay;
-mod suspended;
-mod teller;
-mod tray;
 mod watch;
+mod worker_setup;
+mod worker_state;
 
 pub use end_sink::{EndSink, SessionEnd};
 pub use gate_node::{Open, Passes, PoolFault, Shared, Turnstile};
-pub use host::{Host, LeftSession, OfGates};
 pub use job_pool::{JobFault, Jobs, StreamReadiness};
 pub use laws::{
     sessions_are_at_positions, sessions_go_on, sessions_stay_in_their_run,
@@ -96,13 +96,14 @@ pub use laws::{
 pub use left::{EndedSession, Left};
 pub use live_counts::LiveCounts;
 pub use node_session::{AnswerCounts, Ended, MAX_READ_LEN, MessageKind, SessionFault};
+pub use open_session::OpenSession;
 pub use pause::{NoPause, Pause};
-pub use pool::serve;
+pub use paused_session::PausedSession;
+pub use pool::{pool_fault, serve};
 pub use rest::{Began, Rest};
 pub use riak_msgs::Text;
 pub use run_node::{NodeParts, RunNode};
-pub use seat::Seat;
-pub use served::Served;
-pub use stay::Stay;
-pub use suspended::Suspended;
-pub use tray::{Tray, new_trays, sum_up};
+pub use served_sessions::ServedSessions;
+pub use serving_setup::ServingSetup;
+pub use session_service::{LeftSession, OfGates, SessionService};
+pub use worker_state::{WorkerState, new_worker_states, sum_up};

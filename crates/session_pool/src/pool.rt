@@ -5,29 +5,29 @@ ghost use Rattle.job_pool.specs.Lists.{Every};
 ghost use Rattle.gate_node.specs.Merging.{HaveSeenAllOf};
 ghost use Rattle.gate_node.specs.Passes.{ArePassesOf};
 ghost use Rattle.session_pool.specs.Settling.{pool_fault};
-ghost use Rattle.session_pool.specs.Suspending.{CanGoOn};
-ghost use Rattle.session_pool.specs.Tellers.{IsNewSeat};
+ghost use Rattle.session_pool.specs.PausedSessions.{CanGoOn};
+ghost use Rattle.session_pool.specs.EndReporters.{IsNewServingSetup};
 ghost use Rattle.session_pool.specs.Telling.{LeavesTold, TellsSource};
 
 use crate::end_sink::EndSink;
-use crate::host::{Host, OfGates};
 use crate::kept::{Kept, new_kept};
 use crate::pause::Pause;
-use crate::seat::Seat;
-use crate::served::Served;
+use crate::paused_session::PausedSession;
+use crate::served_sessions::ServedSessions;
+use crate::serving_setup::ServingSetup;
+use crate::session_service::{OfGates, SessionService};
 use crate::settle::{new_places, settle};
-use crate::station::stations_of;
-use crate::suspended::Suspended;
+use crate::worker_setup::worker_setups_of;
 use gate_node::{GivenUp, Passes, PoolFault, Shared, Turnstile};
-use job_pool::{Bell, Jobs, RunFault, StreamReadiness, run_at};
+use job_pool::{Jobs, RunFault, StreamReadiness, Wakeup, run_at};
 use std::alloc::Global;
 use std::io::{Read, Write};
 use std::marker::{Brand, PhantomData};
 use std::sync::Wait;
 use std::thread::Threads;
 
-/// The fault of the run below.
-fn fault_of(fault: RunFault) -> PoolFault
+/// The fault of a run of sessions for one of the workers' run.
+pub fn pool_fault(fault: RunFault) -> PoolFault
     ensures { result ≡ pool_fault fault }
 {
     match fault {
@@ -37,7 +37,7 @@ fn fault_of(fault: RunFault) -> PoolFault
     }
 }
 
-impl<H, X, T, Q, R, W> Host<'_, H, X, T, Q, R, W>
+impl<H, X, T, Q, R, W> SessionService<'_, H, X, T, Q, R, W>
 where
     H: OfGates + Sync + Send,
     X: Threads + Wait + Sync,
@@ -52,38 +52,38 @@ where
         alloc: Global,
         shared: &Shared,
         sessions: &mut J,
-        seats: Vec<Seat<K, Y, B>>,
+        serving_setups: Vec<ServingSetup<K, Y, B>>,
         turnstile: &T,
         pause: &Q,
         kept: &Kept<'_>,
         seen: &mut Passes,
-    ) -> Result<Served<R, W, K>, PoolFault>
+    ) -> Result<ServedSessions<R, W, K>, PoolFault>
     where
-        J: Jobs<Job = Suspended<R, W>>,
+        J: Jobs<Job = PausedSession<R, W>>,
         K: EndSink<R, W> + Drop + Send,
         Y: StreamReadiness<R, W> + Drop + Send,
-        B: Bell + Drop,
+        B: Wakeup + Drop,
         requires of_run { shared.now ≡ H.gates }
-        requires workers { (1 ≤ length seats.items) × (length seats.items ≤ 64) }
-        requires new { Every (IsNewSeat K.told K.has_room) seats.items }
+        requires workers { (1 ≤ length serving_setups.items) × (length serving_setups.items ≤ 64) }
+        requires new { Every (IsNewServingSetup K.told K.has_room) serving_setups.items }
         requires sessions { GivesOnly J.gives (CanGoOn shared.now) sessions.old }
         requires seen { ArePassesOf shared.now seen.old }
         ensures served { IfOk result (λ served.
             TellsSource Q.can_be_raised R.remaining W.contents K.told shared.now J.gives
             sessions.old seen.old served sessions.new seen.new) }
-        ensures sinks { IfOk result (λ served. length served.sinks.items ≡ length seats.items) }
+        ensures sinks { IfOk result (λ served. length served.sinks.items ≡ length serving_setups.items) }
         ensures fault { IfErr result (λ fault. LeavesTold J.gives Q.can_be_raised
             R.remaining W.contents shared.now fault sessions.old sessions.new) }
         ensures more { HaveSeenAllOf seen.new seen.old }
         ensures passes { ArePassesOf shared.now seen.new }
     {
-        let Ok(places) = new_places(alloc, seats.len()) else {
+        let Ok(places) = new_places(alloc, serving_setups.len()) else {
             return Err(PoolFault::NoMemory);
         };
-        let Ok(stations) = stations_of(alloc, shared, seats, kept) else {
+        let Ok(worker_setups) = worker_setups_of(alloc, shared, serving_setups, kept) else {
             return Err(PoolFault::NoMemory);
         };
-        let host = Host::<H, X, T, Q, R, W> {
+        let session_service = SessionService::<H, X, T, Q, R, W> {
             rt,
             shared,
             turnstile,
@@ -93,19 +93,19 @@ where
             readers: PhantomData,
             writers: PhantomData,
         };
-        match run_at(rt, alloc, &host, sessions, stations) {
+        match run_at(rt, alloc, &session_service, sessions, worker_setups) {
             Ok(told) => settle(places, told, seen),
-            Err(fault) => Err(fault_of(fault)),
+            Err(fault) => Err(pool_fault(fault)),
         }
     }
 }
 
-/// Serves all sessions of a source over the gates of a run, each to its end or until it is to rest, by as many workers as there are seats, and keeps no
+/// Serves all sessions of a source over the gates of a run, each to its end or until it is to rest, by as many workers as there are setups, and keeps no
 /// end: each worker's sink is told the ends of its sessions as they come.
 ///
-/// There are 1 to 64 seats, whose sinks were told nothing yet. Each session that the source may give is to begin over these gates
-/// ([`Suspended::new`]), or rested over these or over gates that became these by diversions. The calling thread takes the sessions from the source and hands
-/// each to a worker with the least load, by its bell; how many sessions a worker has open, and which of them has its turn, its readiness says. The
+/// There are 1 to 64 setups, whose sinks were told nothing yet. Each session that the source may give is to begin over these gates
+/// ([`PausedSession::new`]), or rested over these or over gates that became these by diversions. The calling thread takes the sessions from the source and hands
+/// each to a worker with the least load, by its wakeup; how many sessions a worker has open, and which of them has its turn, its readiness says. The
 /// calls of all sessions pass the turnstile. What a sink is told is what `serve` of `node_session` promises of that session from its first read on, by a
 /// node over the gates as they were at each step, whether or not this call ever returns (`specs/Telling`: `IsToldEnd`).
 ///
@@ -141,39 +141,52 @@ pub fn serve<X, J, R, W, T, Q, K, Y, B>(
     alloc: Global,
     shared: &Shared,
     sessions: &mut J,
-    seats: Vec<Seat<K, Y, B>>,
+    serving_setups: Vec<ServingSetup<K, Y, B>>,
     turnstile: &T,
     pause: &Q,
     seen: &mut Passes,
-) -> Result<Served<R, W, K>, PoolFault>
+) -> Result<ServedSessions<R, W, K>, PoolFault>
 where
     X: Threads + Wait + Sync,
-    J: Jobs<Job = Suspended<R, W>>,
+    J: Jobs<Job = PausedSession<R, W>>,
     R: Read + Drop + Send + Sync,
     W: Write + Drop + Send + Sync,
     T: Turnstile + Sync,
     Q: Pause + Sync,
     K: EndSink<R, W> + Drop + Send,
     Y: StreamReadiness<R, W> + Drop + Send,
-    B: Bell + Drop,
-    requires workers { (1 ≤ length seats.items) × (length seats.items ≤ 64) }
-    requires new { Every (IsNewSeat K.told K.has_room) seats.items }
+    B: Wakeup + Drop,
+    requires workers { (1 ≤ length serving_setups.items) × (length serving_setups.items ≤ 64) }
+    requires new { Every (IsNewServingSetup K.told K.has_room) serving_setups.items }
     requires sessions { GivesOnly J.gives (CanGoOn shared.now) sessions.old }
     requires seen { ArePassesOf shared.now seen.old }
     ensures served { IfOk result (λ served.
         TellsSource Q.can_be_raised R.remaining W.contents K.told shared.now J.gives
         sessions.old seen.old served sessions.new seen.new) }
-    ensures sinks { IfOk result (λ served. length served.sinks.items ≡ length seats.items) }
+    ensures sinks { IfOk result (λ served. length served.sinks.items ≡ length serving_setups.items) }
     ensures fault { IfErr result (λ fault. LeavesTold J.gives Q.can_be_raised
         R.remaining W.contents shared.now fault sessions.old sessions.new) }
     ensures more { HaveSeenAllOf seen.new seen.old }
     ensures passes { ArePassesOf shared.now seen.new }
 {
     let given_up = GivenUp::new();
-    let Ok(kept) = new_kept(alloc, shared.handoff().ring(), seats.len(), &given_up) else {
+    let Ok(kept) = new_kept(
+        alloc,
+        shared.handoff().ring(),
+        serving_setups.len(),
+        &given_up,
+    ) else {
         return Err(PoolFault::NoMemory);
     };
-    Host::<Brand, X, T, Q, R, W>::serve(
-        rt, alloc, shared, sessions, seats, turnstile, pause, &kept, seen,
+    SessionService::<Brand, X, T, Q, R, W>::serve(
+        rt,
+        alloc,
+        shared,
+        sessions,
+        serving_setups,
+        turnstile,
+        pause,
+        &kept,
+        seen,
     )
 }

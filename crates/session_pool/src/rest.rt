@@ -49,7 +49,7 @@ impl Model for Rest {
 pub struct SeenOrigin;
 
 impl Model for SeenOrigin {
-    ghost use Rattle.session_pool.specs.Suspending.{Origin, no_origin};
+    ghost use Rattle.session_pool.specs.PausedSessions.{Origin, no_origin};
 
     ghost Value = { Origin };
 
@@ -63,7 +63,7 @@ pub struct Began {
 }
 
 impl Model for Began {
-    ghost use Rattle.session_pool.specs.Suspending.{Origin, origin_in};
+    ghost use Rattle.session_pool.specs.PausedSessions.{Origin, origin_in};
 
     ghost Value = { Origin };
 

@@ -22,11 +22,11 @@ use std::sync::Wait;
 ///
 /// ```text
 /// let node = RunNode::resumed(shared, GateNode::counting_by(rt, shared, SessionCount::new(), passes, &Open), rest);
-/// course.step(alloc, &mut reader, &mut writer, &mut node, &mut scratch)      // as often as is wanted
+/// session.step(alloc, &mut reader, &mut writer, &mut node, &mut scratch)      // as often as is wanted
 /// let NodeParts { count, passes, rest } = node.parts();                     // the session rests
 /// handoff.divert(alloc, 0)
 /// let node = RunNode::resumed(later, GateNode::counting_by(rt, later, SessionCount::new(), passes, &Open), rest);
-/// course.step(alloc, &mut reader, &mut writer, &mut node, &mut scratch)      // goes on, over the fallback of partition 0
+/// session.step(alloc, &mut reader, &mut writer, &mut node, &mut scratch)      // goes on, over the fallback of partition 0
 /// ```
 pub struct RunNode<'a, W: Wait, T: Turnstile> {
     node: GateNode<'a, W, T, SessionCount>,

@@ -3,23 +3,23 @@ ghost use Rattle.std.specs.Prelude.{◌≡◌, ◌≤◌, [], length, map, vec_c
 ghost use Rattle.gate_node.specs.Merging.{HaveSeenAllOf};
 ghost use Rattle.gate_node.specs.Passes.{ArePassesOf};
 ghost use Rattle.session_pool.specs.Settling.{IsFaultAfterTold, Settles};
-ghost use Rattle.session_pool.specs.Tellers.{AreApart};
+ghost use Rattle.session_pool.specs.EndReporters.{AreApart};
 
+use crate::end_reporter::{EndReporter, either};
 use crate::end_sink::EndSink;
-use crate::host::OfGates;
-use crate::served::Served;
-use crate::suspended::Suspended;
-use crate::teller::{Teller, either};
-use crate::tray::{Tray, sum_up};
+use crate::paused_session::PausedSession;
+use crate::served_sessions::ServedSessions;
+use crate::session_service::OfGates;
+use crate::worker_state::{WorkerState, sum_up};
 use gate_node::{Passes, PoolFault};
-use job_pool::Told;
+use job_pool::WorkersLeft;
 use std::alloc::{AllocError, Global};
 use std::io::{Read, Write};
 
 /// A place for what each worker of a run leaves, made before the run, so that none of it is lost for want of memory.
 pub(crate) struct Places<R: Read, W: Write, K> {
     pub(crate) sinks: Vec<K>,
-    pub(crate) resting: Vec<Vec<Suspended<R, W>>>,
+    pub(crate) resting: Vec<Vec<PausedSession<R, W>>>,
 }
 
 /// One call at each place where one is let go.
@@ -34,7 +34,7 @@ impl<R: Read + Drop, W: Write + Drop, K: Drop> Drop for Places<R, W, K> {
 
 impl<R: Read, W: Write, K> Places<R, W, K> {
     /// The lists.
-    fn into_lists(self) -> (Vec<K>, Vec<Vec<Suspended<R, W>>>)
+    fn into_lists(self) -> (Vec<K>, Vec<Vec<PausedSession<R, W>>>)
         ensures { (result.0 ≡ self.sinks) × (result.1 ≡ self.resting) }
     {
         let Places { sinks, resting } = self;
@@ -58,34 +58,34 @@ pub(crate) fn new_places<R: Read, W: Write, K: Drop>(
     })
 }
 
-/// The sinks of tellers, what rests of each, and whether the book was full in a session of one of them.
+/// The sinks of end reporters, what rests of each, and whether the book was full in a session of one of them.
 #[derive(Drop)]
 struct Apart<R: Read, W: Write, K> {
     sinks: Vec<K>,
-    resting: Vec<Vec<Suspended<R, W>>>,
+    resting: Vec<Vec<PausedSession<R, W>>>,
     is_book_full: bool,
 }
 
-/// Takes the tellers apart, in lists that have a place for each. What they have seen these passes have then seen too.
+/// Takes the end reporters apart, in lists that have a place for each. What they have seen these passes have then seen too.
 fn take_apart<H: OfGates, R: Read + Drop, W: Write + Drop, K: EndSink<R, W> + Drop>(
     sinks: Vec<K>,
-    resting: Vec<Vec<Suspended<R, W>>>,
-    tellers: Vec<Teller<H, R, W, K>>,
+    resting: Vec<Vec<PausedSession<R, W>>>,
+    end_reporters: Vec<EndReporter<H, R, W, K>>,
     seen: &mut Passes,
 ) -> Apart<R, W, K>
     requires passes { ArePassesOf H.gates seen.old }
     requires no_sinks { sinks.items ≡ [] }
     requires none_rests { resting.items ≡ [] }
-    requires room { length tellers.items ≤ vec_capacity sinks }
-    requires more_room { length tellers.items ≤ vec_capacity resting }
-    ensures { AreApart K.told H.gates tellers.items result.sinks.items
+    requires room { length end_reporters.items ≤ vec_capacity sinks }
+    requires more_room { length end_reporters.items ≤ vec_capacity resting }
+    ensures { AreApart K.told H.gates end_reporters.items result.sinks.items
         (map (λ one. one.items) result.resting.items) result.is_book_full seen.old seen.new }
 {
     let mut sinks = sinks;
     let mut resting = resting;
     let mut is_book_full = false;
-    for teller in tellers {
-        let (sink, passes, rest, is_full) = teller.parts();
+    for end_reporter in end_reporters {
+        let (sink, passes, rest, is_full) = end_reporter.parts();
         seen.merge(passes);
         sinks.push_reserved(sink);
         resting.push_reserved(rest);
@@ -101,9 +101,9 @@ fn take_apart<H: OfGates, R: Read + Drop, W: Write + Drop, K: EndSink<R, W> + Dr
 /// What a run leaves whose workers were joined.
 pub(crate) fn settle<H, R, W, K>(
     places: Places<R, W, K>,
-    told: Told<Tray, Teller<H, R, W, K>>,
+    told: WorkersLeft<WorkerState, EndReporter<H, R, W, K>>,
     seen: &mut Passes,
-) -> Result<Served<R, W, K>, PoolFault>
+) -> Result<ServedSessions<R, W, K>, PoolFault>
 where
     H: OfGates,
     R: Read + Drop,
@@ -120,14 +120,14 @@ where
     ensures more { HaveSeenAllOf seen.new seen.old }
     ensures passes { ArePassesOf H.gates seen.new }
 {
-    let Told {
+    let WorkersLeft {
         workers,
-        sinks: tellers,
+        sinks: end_reporters,
         given,
         refused,
     } = told;
     let (sinks, resting) = places.into_lists();
-    let apart = take_apart(sinks, resting, tellers, seen);
+    let apart = take_apart(sinks, resting, end_reporters, seen);
     let sum = sum_up(workers);
     let Apart {
         sinks,
@@ -140,7 +140,7 @@ where
     let Some(totals) = sum else {
         return Err(PoolFault::BookFull);
     };
-    Ok(Served {
+    Ok(ServedSessions {
         totals,
         accepted: given as u64,
         refused: refused as u64,

@@ -1,11 +1,11 @@
 //! What a worker waits with that keeps a reserve.
 
-use crate::host::{Host, OfGates};
 use crate::kept::Kept;
+use crate::open_session::OpenSession;
 use crate::pause::Pause;
-use crate::stay::Stay;
+use crate::session_service::{OfGates, SessionService};
 use gate_node::Turnstile;
-use job_pool::{Moved, Readiness, StreamReadiness, Turn};
+use job_pool::{Readiness, StepOutcome, StreamReadiness, Turn};
 use std::alloc::Global;
 use std::io::{Read, Write};
 use std::sync::Wait;
@@ -63,7 +63,7 @@ impl<'a, Y> Watch<'a, Y> {
     }
 }
 
-impl<'a, Y, H, X, T, Q, I, O> Readiness<Host<'a, H, X, T, Q, I, O>> for Watch<'a, Y>
+impl<'a, Y, H, X, T, Q, I, O> Readiness<SessionService<'a, H, X, T, Q, I, O>> for Watch<'a, Y>
 where
     Y: StreamReadiness<I, O>,
     H: OfGates + Sync,
@@ -77,7 +77,7 @@ where
         self.streams.takes(is_idle)
     }
 
-    fn begin(&mut self, slot: usize, opened: &Stay<'a, X, T, I, O>) {
+    fn begin(&mut self, slot: usize, opened: &OpenSession<'a, X, T, I, O>) {
         self.streams.begin(slot, opened.reader(), opened.writer());
     }
 
@@ -89,7 +89,7 @@ where
         self.streams.ends_turn(slot, before)
     }
 
-    fn after(&mut self, slot: usize, moved: Moved) {
+    fn after(&mut self, slot: usize, moved: StepOutcome) {
         self.streams.after(slot, moved);
     }
 

@@ -1,5 +1,5 @@
 -- The lemmas of this crate.
-pub mod Seats
+pub mod ServingSetups
 pub mod Sends
 pub mod InTurn
 pub mod Resting

@@ -5,7 +5,7 @@ use Rattle.job_pool.specs.Giving.{Gave, GaveAll, GivesOnly}
 use Rattle.job_pool.specs.Lists.{Every, concat}
 use Rattle.job_pool.specs.declared.jobs.JobFault.{JobFault}
 use Rattle.worker_pool.specs.Serving.{Gates}
-use Rattle.session_pool.specs.Suspending.{SuspendedView, CanGoOn}
+use Rattle.session_pool.specs.PausedSessions.{PausedSessionView, CanGoOn}
 use Rattle.worker_pool.specs.declared.job.Job.{Job}
 use Rattle.socket_streams.specs.declared.halves.RequestHalf.{RequestHalf}
 use Rattle.socket_streams.specs.declared.halves.ReplyHalf.{ReplyHalf}
@@ -14,7 +14,7 @@ use Rattle.socket_streams.specs.Sessions.{SessionsView, GivesSession, GivesBegun
 use Rattle.socket_streams.proofs.InTurn.{all_in_turn}
 
 abbrev Session : Type 0
-Session = SuspendedView RequestHalf ReplyHalf
+Session = PausedSessionView RequestHalf ReplyHalf
 
 abbrev Connection : Type 0
 Connection = Job RequestHalf ReplyHalf

@@ -10,8 +10,8 @@ use crate::halves::{ReplyHalf, RequestHalf, new_halves, new_socket};
 use crate::limits::Limits;
 use crate::log_sink::log_refused;
 use crate::pause::PAUSE_MILLIS;
+use crate::run_signals::RunSignals;
 use crate::spare::{PauseSpare, Spare};
-use crate::stop::Stop;
 use crate::waits::Waits;
 use log::{Log, info, warn};
 use std::alloc::Global;
@@ -37,7 +37,7 @@ pub struct Arrivals<'a, X, L> {
     listener: &'a L,
     waits: Waits,
     shared: &'a Shared,
-    stop: &'a Stop,
+    stop: &'a RunSignals,
     spare: Spare,
     for_pause: PauseSpare,
     limits: Limits,
@@ -79,7 +79,7 @@ impl<'a, X, L: OpenListener<Stream = TcpStream> + AsRawFd> Arrivals<'a, X, L> {
         listener: &'a L,
         waits: Waits,
         shared: &'a Shared,
-        stop: &'a Stop,
+        stop: &'a RunSignals,
         limits: Limits,
     ) -> io::Result<Arrivals<'a, X, L>>
         ensures { IfOk result (λ arrivals. arrivals ≡ record {

@@ -6,8 +6,8 @@
 //! let counts = ServerCounts::new(alloc, 4)?;
 //! // each run has its own
 //! let (waits, stop) = new_run_waits(&rt, alloc, 4, &counts)?;
-//! // for each a sink, a readiness and a bell
-//! let seats = new_seats(&rt, alloc, &stop, waits.workers, waiting)?;
+//! // for each a sink, a readiness and a wakeup
+//! let serving_setups = new_serving_setups(&rt, alloc, &stop, waits.workers, waiting)?;
 //! let limits = Limits {
 //!     connections: Some(9), counts_refused: true, can_stop: true, keeps_back: true, tries: None,
 //! };
@@ -15,7 +15,7 @@
 //! // `resting` of the run before; none at first
 //! let mut sessions = Sessions::new(alloc, arrivals, rested, Some(writer));
 //! // of `session_pool`
-//! serve(&rt, alloc, &shared, &mut sessions, seats, &Open, &stop, &mut seen)
+//! serve(&rt, alloc, &shared, &mut sessions, serving_setups, &Open, &stop, &mut seen)
 //! // by another thread: it returns, and what is open rests
 //! stop.pause()
 //! ```
@@ -33,14 +33,14 @@
 //! write; of a read that took less than it had room for the next needs no call of the system
 //! (`Connection`). A worker takes no memory before all threads are started.
 //!
-//! How it is built: the leading thread waits at the listener, and rings the bell of a worker with
+//! How it is built: the leading thread waits at the listener, and rings the wakeup of a worker with
 //! the fewest connections, of which one that had a turn lately counts as four. A worker waits with
-//! `mio` for its sockets and its bell ([`SocketDesk`]), and gives each connection that is ready a
+//! `mio` for its sockets and its wakeup ([`EventLoop`]), and gives each connection that is ready a
 //! turn, which ends once it has moved 64 KiB or taken a millisecond. Where nobody waits for a
 //! client any more (it was silent for too long, or serving is stopped), its connection has one
 //! ordinary turn, and then one in which it ends rather than wait. Where the run is paused each
 //! connection has one turn, in which the pool lays it down: its socket stays open and takes what
-//! its client sends, and the desk of a later run watches it anew.
+//! its client sends, and the event loop of a later run watches it anew.
 //!
 //! # Proved
 //!
@@ -49,7 +49,8 @@
 //! the system took, what is gathered, and what was let go at its end. A flush that succeeds leaves
 //! nothing gathered.
 //!
-//! By the calls of `Arrivals`, `Sessions`, `LogSink` and `ReplyHalf`, `new_seats`, `new_posts`.
+//! By the calls of `Arrivals`, `Sessions`, `LogSink` and `ReplyHalf`, `new_serving_setups`,
+//! `new_posts`.
 //!
 //! # Tested
 //!
@@ -60,16 +61,15 @@
 //!
 //! - That `send` hands on the bytes that it notes.
 //! - What comes over a socket, and when a session rests.
-//! - Proved safe, and no more: who is ready, whose turn it is, the stop, which sockets linger, what
-//!   an error of `accept` comes to, a log line.
+//! - Proved safe, and no more: who is ready, whose turn it is, a run's signals, which sockets
+//!   linger, what an error of `accept` comes to, a log line.
 #![tactic(auto)]
 
 mod accept_fault;
 mod activity;
 mod arrivals;
 mod connection;
-mod desk;
-mod door;
+mod event_loop;
 mod halves;
 mod limits;
 mod lingering;
@@ -78,27 +78,29 @@ mod pause;
 mod refused_puts;
 mod replies_bound;
 mod reports;
+mod run_signals;
 mod server_counts;
 mod sessions;
 mod slots;
 mod spare;
-mod stop;
 mod turn_bound;
 mod waiting;
 mod waits;
 mod worker_clock;
+mod worker_signals;
 
 pub use accept_fault::AcceptFault;
 pub use arrivals::Arrivals;
-pub use desk::SocketDesk;
-pub use door::SocketBell;
+pub use event_loop::EventLoop;
 pub use halves::{ReplyHalf, RequestHalf};
 pub use limits::Limits;
 pub use log_sink::LogSink;
+pub use run_signals::RunSignals;
 pub use server_counts::{ServerCounts, Work, WorkerCounts};
 pub use sessions::{Sessions, SocketSession};
-pub use stop::Stop;
 pub use waiting::Waiting;
 pub use waits::{
-    RunWaits, SocketPost, SocketSeat, Waits, WorkerWaits, new_posts, new_run_waits, new_seats,
+    RunWaits, SocketPost, SocketServingSetup, Waits, WorkerWaits, new_posts, new_run_waits,
+    new_serving_setups,
 };
+pub use worker_signals::SocketWakeup;

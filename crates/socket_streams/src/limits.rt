@@ -1,7 +1,7 @@
 //! How long the connections of a listener are accepted.
 ghost use Rattle.std.specs.Prelude.{◌≡◌, false};
 
-use crate::stop::Stop;
+use crate::run_signals::RunSignals;
 
 /// How many connections of a listener are accepted, and how often that is tried.
 #[derive(Clone, Copy)]
@@ -10,7 +10,7 @@ pub struct Limits {
     pub connections: Option<u64>,
     /// Whether one that is closed for want of memory is one of those that were accepted.
     pub counts_refused: bool,
-    /// Whether the stop may end accepting before: it is raised, or pauses the run.
+    /// Whether the run's signals may end accepting before: they are raised, or pause the run.
     pub can_stop: bool,
     /// Whether a MiB is kept back between connections, by which the run can be started again behind a pause.
     pub keeps_back: bool,
@@ -19,8 +19,8 @@ pub struct Limits {
 }
 
 impl Limits {
-    /// Whether the stop ends accepting before as many were accepted as are to be.
-    pub(crate) fn are_cut(&self, stop: &Stop) -> bool
+    /// Whether the run's signals end accepting before as many were accepted as are to be.
+    pub(crate) fn are_cut(&self, stop: &RunSignals) -> bool
         ensures { self.now.can_stop ≡ false → result ≡ false }
     {
         self.can_stop && stop.ends_accepting()

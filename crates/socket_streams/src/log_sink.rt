@@ -1,9 +1,9 @@
 //! What is told the end of each connection: the log.
 ghost use Rattle.std.specs.Prelude.{◌≡◌, ◌++◌, ◌∷◌, []};
 
-use crate::door::Door;
 use crate::halves::{ReplyHalf, RequestHalf};
 use crate::slots::Slot;
+use crate::worker_signals::WorkerSignals;
 use ghost_state::GhostList;
 use job_pool::NumberedEnd;
 use log::{Log, info, warn};
@@ -18,13 +18,13 @@ use worker_pool::{EndRead, EndWrite};
 /// The end of a connection, as a worker's sink is told it.
 type ConnectionEnd = SessionEnd<RequestHalf, ReplyHalf>;
 
-/// Writes a line to the log for each end, and lets the halves of that connection go. Of one that rests it writes nothing: its slot is told at the door
+/// Writes a line to the log for each end, and lets the halves of that connection go. Of one that rests it writes nothing: its slot is told by the worker's signals
 /// that the socket stays open. It keeps nothing: clauses alone see the ends that it was told, as their list.
 pub struct LogSink<'a, X> {
     rt: &'a X,
     alloc: Global,
-    door: Arc<Door, Global>,
-    /// For how many slots the worker has room, or is to find it at the door.
+    worker_signals: Arc<WorkerSignals, Global>,
+    /// For how many slots the worker has room, or is to find it in its signals.
     room: usize,
     ends: GhostList<NumberedEnd<ConnectionEnd>>,
 }
@@ -35,7 +35,7 @@ impl<'a, X> Drop for LogSink<'a, X> {
         let LogSink {
             rt: _rt,
             alloc: _alloc,
-            door: _door,
+            worker_signals: _worker_signals,
             room: _room,
             ends: _ends,
         } = self;
@@ -100,14 +100,18 @@ fn log_end<L: Log>(
 }
 
 impl<'a, X> LogSink<'a, X> {
-    /// One that was told none, of the worker that has this door.
-    pub(crate) fn new(rt: &'a X, alloc: Global, door: Arc<Door, Global>) -> LogSink<'a, X>
+    /// One that was told none, of the worker that has these signals.
+    pub(crate) fn new(
+        rt: &'a X,
+        alloc: Global,
+        worker_signals: Arc<WorkerSignals, Global>,
+    ) -> LogSink<'a, X>
         ensures { result ≡ [] }
     {
         LogSink {
             rt,
             alloc,
-            door,
+            worker_signals,
             room: 0,
             ends: GhostList::new(),
         }
@@ -115,13 +119,13 @@ impl<'a, X> LogSink<'a, X> {
 }
 
 impl<'a, X: Log + Clock + Wait> LogSink<'a, X> {
-    /// Makes room for so many slots, and puts it to the door.
+    /// Makes room for so many slots, and puts it into the signals.
     fn widen(&mut self, slots: usize) -> Result<(), AllocError>
         ensures { self.new ≡ self.old }
     {
         let wider: Vec<Slot> = Vec::with_capacity(self.alloc, slots)?;
         self.room = wider.capacity();
-        self.door.put_wider(self.rt, wider);
+        self.worker_signals.put_wider(self.rt, wider);
         Ok(())
     }
 }
@@ -148,7 +152,7 @@ impl<'a, X: Log + Clock + Wait> EndSink<RequestHalf, ReplyHalf> for LogSink<'a, 
         } = end;
         reader.ended();
         writer.ended();
-        let is_cut = is_cut(result, self.door.is_cutting());
+        let is_cut = is_cut(result, self.worker_signals.is_cutting());
         let is_too_large = writer.is_too_large();
         log_end(self.rt, reader.peer(), result, is_cut, is_too_large);
     }
@@ -156,14 +160,14 @@ impl<'a, X: Log + Clock + Wait> EndSink<RequestHalf, ReplyHalf> for LogSink<'a, 
     fn rest(&mut self, _number: usize)
         ensures { self.new ≡ self.old }
     {
-        self.door.note_rest();
+        self.worker_signals.note_rest();
     }
 
     fn refuse(&mut self, _number: usize, reader: RequestHalf, _writer: ReplyHalf)
         ensures { self.new ≡ self.old }
     {
         log_refused(self.rt, reader.peer());
-        self.door.counts().count_refused();
-        self.door.count_end();
+        self.worker_signals.counts().count_refused();
+        self.worker_signals.count_end();
     }
 }

@@ -7,7 +7,7 @@ use crate::arrivals::Arrivals;
 use crate::halves::{ReplyHalf, RequestHalf};
 use job_pool::{JobFault, Jobs};
 use log::Log;
-use session_pool::Suspended;
+use session_pool::PausedSession;
 use std::alloc::Global;
 use std::io;
 use std::io::Write;
@@ -19,7 +19,7 @@ use std::sync::Wait;
 use worker_pool::Job;
 
 /// A session over a socket that rests, or is to begin.
-pub type SocketSession = Suspended<RequestHalf, ReplyHalf>;
+pub type SocketSession = PausedSession<RequestHalf, ReplyHalf>;
 
 /// The sessions of a run over sockets: those that rest, which earlier runs left, and then one that is to begin for each connection that a listener
 /// gives, as the [`Arrivals`] say.
@@ -157,7 +157,7 @@ impl<'a, X, L: OpenListener<Stream = TcpStream> + AsRawFd, W> Sessions<'a, X, L,
             writer,
             passes,
         } = job;
-        Suspended::new(self.alloc, self.arrivals.shared(), passes, reader, writer)
+        PausedSession::new(self.alloc, self.arrivals.shared(), passes, reader, writer)
     }
 }
 

@@ -2,7 +2,7 @@
 
 use crate::activity::Activity;
 use crate::connection::Socket;
-use crate::door::Door;
+use crate::worker_signals::WorkerSignals;
 use std::alloc::Global;
 use std::sync::Wait;
 
@@ -106,11 +106,11 @@ impl Slots {
     }
 
     /// Moves the slots to where the sink made room for more, if there is none here.
-    fn widen<X: Wait>(&mut self, rt: &X, door: &Door) {
+    fn widen<X: Wait>(&mut self, rt: &X, worker_signals: &WorkerSignals) {
         if self.slots.len() < self.slots.capacity() {
             return;
         }
-        let mut wider = door.take_wider(rt, self.alloc);
+        let mut wider = worker_signals.take_wider(rt, self.alloc);
         if wider.capacity() > self.slots.len() && wider.append(&mut self.slots).is_ok() {
             self.slots = wider;
         }
@@ -120,13 +120,13 @@ impl Slots {
     pub(crate) fn begin<X: Wait>(
         &mut self,
         rt: &X,
-        door: &Door,
+        worker_signals: &WorkerSignals,
         slot: usize,
         socket: Socket,
         now: u64,
     ) -> bool {
         if slot >= self.slots.len() {
-            self.widen(rt, door);
+            self.widen(rt, worker_signals);
             let free = Slot {
                 socket: None,
                 moved: 0,

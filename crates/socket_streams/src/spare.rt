@@ -1,6 +1,6 @@
 //! Memory that the accepting thread keeps back.
 
-use crate::stop::Stop;
+use crate::run_signals::RunSignals;
 use std::alloc::{AllocError, Global};
 
 /// How many pages are kept back.
@@ -94,7 +94,7 @@ impl PauseSpare {
     }
 
     /// Makes what isn't there, as far as there is memory, and says whether it is enough for a pause.
-    pub(crate) fn refill(&mut self, alloc: Global, stop: &Stop) {
+    pub(crate) fn refill(&mut self, alloc: Global, stop: &RunSignals) {
         if let Some(pages) = &mut self.pages {
             pages.refill(alloc);
             stop.set_pausable(pages.pages.len() >= PAGES / 2);

@@ -2,18 +2,18 @@
 ghost use Rattle.std.specs.Prelude.{◌≡◌, [], length, IfOk};
 ghost use Rattle.job_pool.specs.Lists.{Every};
 
-use crate::desk::SocketDesk;
-use crate::door::{Door, SocketBell};
+use crate::event_loop::EventLoop;
 use crate::log_sink::LogSink;
 use crate::replies_bound::{RepliesBound, WaitingBytes};
+use crate::run_signals::RunSignals;
 use crate::server_counts::ServerCounts;
-use crate::stop::Stop;
 use crate::waiting::Waiting;
+use crate::worker_signals::{SocketWakeup, WorkerSignals};
 use job_pool::Post;
 use log::Log;
 use mio::unix::SourceFd;
 use mio::{Events, Interest, Poll, Token, Waker};
-use session_pool::Seat;
+use session_pool::ServingSetup;
 use std::alloc::Global;
 use std::io;
 use std::net::{Net, OpenListener};
@@ -21,7 +21,7 @@ use std::os::fd::AsRawFd;
 use std::rt::Clock;
 use std::sync::atomic::AtomicUsize;
 use std::sync::{Arc, Wait};
-use worker_pool::Shown;
+use worker_pool::ShownStreams;
 
 /// The token of the listener.
 const LISTENER: usize = 0;
@@ -65,7 +65,7 @@ impl Waits {
 #[derive(Drop)]
 pub struct WorkerWaits {
     waits: Waits,
-    door: Arc<Door, Global>,
+    worker_signals: Arc<WorkerSignals, Global>,
 }
 
 /// What the threads of a run wait with.
@@ -76,10 +76,14 @@ pub struct RunWaits {
 }
 
 /// What a worker over sockets waits with in a run that keeps all ends, and is woken by.
-pub type SocketPost<'s, X> = Post<Shown<SocketDesk<'s, X>>, SocketBell>;
+pub type SocketPost<'s, X> = Post<ShownStreams<EventLoop<'s, X>>, SocketWakeup>;
 
 /// What a worker over sockets is started with in a run that keeps none.
-pub type SocketSeat<'a, 's, X> = Seat<LogSink<'a, X>, SocketDesk<'s, X>, SocketBell>;
+pub type SocketServingSetup<'a, 's, X> = ServingSetup<
+    LogSink<'a, X>,
+    EventLoop<'s, X>,
+    SocketWakeup,
+>;
 
 /// What a thread waits with, and how another one wakes it.
 fn new_waits<X: Net>(net: &X, alloc: Global) -> io::Result<(Waits, Waker)> {
@@ -89,18 +93,21 @@ fn new_waits<X: Net>(net: &X, alloc: Global) -> io::Result<(Waits, Waker)> {
     Ok((Waits { poll, events }, waker))
 }
 
-/// What a further worker waits with, whose door is one more of these.
+/// What a further worker waits with, whose signals are one more of these.
 fn new_worker<X: Net>(
     net: &X,
     alloc: Global,
-    doors: &mut Vec<Arc<Door, Global>>,
+    all_worker_signals: &mut Vec<Arc<WorkerSignals, Global>>,
     counts: &ServerCounts,
 ) -> io::Result<WorkerWaits> {
     let (waits, waker) = new_waits(net, alloc)?;
-    let counts = counts.share_worker(doors.len())?;
-    let door = Arc::new(alloc, Door::new(alloc, waker, counts))?;
-    doors.push(Arc::try_clone(&door)?)?;
-    Ok(WorkerWaits { waits, door })
+    let counts = counts.share_worker(all_worker_signals.len())?;
+    let worker_signals = Arc::new(alloc, WorkerSignals::new(alloc, waker, counts))?;
+    all_worker_signals.push(Arc::try_clone(&worker_signals)?)?;
+    Ok(WorkerWaits {
+        waits,
+        worker_signals,
+    })
 }
 
 /// What the threads of a run of so many workers wait with, and what stops or pauses the run. What they do is counted
@@ -110,60 +117,68 @@ pub fn new_run_waits<X: Net>(
     alloc: Global,
     workers: u16,
     counts: &Arc<ServerCounts, Global>,
-) -> io::Result<(RunWaits, Stop)>
+) -> io::Result<(RunWaits, RunSignals)>
     ensures { IfOk result (λ made. length made.0.workers.items ≡ workers) }
 {
     let (accepting, waker) = new_waits(net, alloc)?;
     let mut waits = Vec::new(alloc);
-    let mut doors = Vec::new(alloc);
+    let mut all_worker_signals = Vec::new(alloc);
     for _ in 0..workers {
-        waits.push(new_worker(net, alloc, &mut doors, counts)?)?;
+        waits.push(new_worker(net, alloc, &mut all_worker_signals, counts)?)?;
     }
     let made = RunWaits {
         accepting,
         workers: waits,
     };
-    Ok((made, Stop::new(waker, doors, Arc::try_clone(counts)?)))
+    Ok((
+        made,
+        RunSignals::new(waker, all_worker_signals, Arc::try_clone(counts)?),
+    ))
 }
 
 /// What a worker that waits with these has in a run that is stopped so.
 fn new_post<'s, X: Clock + Log + Wait>(
     rt: &'s X,
     alloc: Global,
-    stop: &'s Stop,
+    stop: &'s RunSignals,
     worker: WorkerWaits,
     waiting: Waiting,
     replies: RepliesBound,
 ) -> io::Result<SocketPost<'s, X>> {
-    let WorkerWaits { waits, door } = worker;
-    let of_bell = Arc::try_clone(&door)?;
+    let WorkerWaits {
+        waits,
+        worker_signals,
+    } = worker;
+    let of_wakeup = Arc::try_clone(&worker_signals)?;
     Ok(Post {
-        readiness: Shown {
-            streams: SocketDesk::new(rt, alloc, stop, door, waits, waiting, replies),
+        readiness: ShownStreams {
+            streams: EventLoop::new(rt, alloc, stop, worker_signals, waits, waiting, replies),
         },
-        bell: SocketBell { door: of_bell },
+        wakeup: SocketWakeup {
+            worker_signals: of_wakeup,
+        },
     })
 }
 
 /// The same of a run that keeps no ends, with a sink.
-fn new_seat<'a: 's, 's, X: Clock + Log + Wait>(
+fn new_serving_setup<'a: 's, 's, X: Clock + Log + Wait>(
     rt: &'a X,
     alloc: Global,
-    stop: &'s Stop,
+    stop: &'s RunSignals,
     worker: WorkerWaits,
     waiting: Waiting,
     replies: &WaitingBytes,
-) -> io::Result<SocketSeat<'a, 's, X>>
-    ensures { IfOk result (λ seat. seat.sink ≡ []) }
+) -> io::Result<SocketServingSetup<'a, 's, X>>
+    ensures { IfOk result (λ serving_setup. serving_setup.sink ≡ []) }
 {
-    let of_sink = Arc::try_clone(&worker.door)?;
-    let counts = worker.door.counts().sessions().try_clone()?;
+    let of_sink = Arc::try_clone(&worker.worker_signals)?;
+    let counts = worker.worker_signals.counts().sessions().try_clone()?;
     let bound = RepliesBound::of(waiting.replies_bytes, Arc::try_clone(replies)?);
-    let Post { readiness, bell } = new_post(rt, alloc, stop, worker, waiting, bound)?;
-    Ok(Seat {
+    let Post { readiness, wakeup } = new_post(rt, alloc, stop, worker, waiting, bound)?;
+    Ok(ServingSetup {
         sink: LogSink::new(rt, alloc, of_sink),
         readiness: readiness.streams,
-        bell,
+        wakeup,
         counts: Some(counts),
     })
 }
@@ -173,7 +188,7 @@ fn new_seat<'a: 's, 's, X: Clock + Log + Wait>(
 pub fn new_posts<'s, X: Clock + Log + Wait>(
     rt: &'s X,
     alloc: Global,
-    stop: &'s Stop,
+    stop: &'s RunSignals,
     workers: Vec<WorkerWaits>,
 ) -> io::Result<Vec<SocketPost<'s, X>>>
     ensures { IfOk result (λ posts. length posts.items ≡ length workers.items) }
@@ -193,20 +208,20 @@ pub fn new_posts<'s, X: Clock + Log + Wait>(
 
 /// What the workers of a run that keeps no ends are started with, which wait so: a connection has been silent since the run began at most. Refused
 /// where memory is.
-pub fn new_seats<'a: 's, 's, X: Clock + Log + Wait>(
+pub fn new_serving_setups<'a: 's, 's, X: Clock + Log + Wait>(
     rt: &'a X,
     alloc: Global,
-    stop: &'s Stop,
+    stop: &'s RunSignals,
     workers: Vec<WorkerWaits>,
     waiting: Waiting,
-) -> io::Result<Vec<SocketSeat<'a, 's, X>>>
-    ensures count { IfOk result (λ seats. length seats.items ≡ length workers.items) }
-    ensures new { IfOk result (λ seats. Every (λ seat. seat.sink ≡ []) seats.items) }
+) -> io::Result<Vec<SocketServingSetup<'a, 's, X>>>
+    ensures count { IfOk result (λ serving_setups. length serving_setups.items ≡ length workers.items) }
+    ensures new { IfOk result (λ serving_setups. Every (λ serving_setup. serving_setup.sink ≡ []) serving_setups.items) }
 {
     let replies = Arc::new(alloc, AtomicUsize::new(0))?;
-    let mut seats = Vec::new(alloc);
+    let mut serving_setups = Vec::new(alloc);
     for worker in workers {
-        seats.push(new_seat(rt, alloc, stop, worker, waiting, &replies)?)?;
+        serving_setups.push(new_serving_setup(rt, alloc, stop, worker, waiting, &replies)?)?;
     }
-    Ok(seats)
+    Ok(serving_setups)
 }

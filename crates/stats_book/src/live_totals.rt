@@ -18,6 +18,7 @@ pub struct LiveTotals {
 }
 
 /// Raises a number that this thread alone raises. It stops at 18,446,744,073,709,551,615.
+#[inline(always)]
 fn raise(number: &AtomicU64, amount: u64) {
     let raised = number.load(Ordering::Relaxed).saturating_add(amount);
     number.store(raised, Ordering::Relaxed);
@@ -47,6 +48,7 @@ impl LiveTotals {
     }
 
     /// So many more of a quantity were counted.
+    #[inline(always)]
     pub(crate) fn raise(&self, quantity: Quantity, amount: u64) {
         match quantity {
             Quantity::Gets => raise(&self.gets, amount),

@@ -63,6 +63,7 @@ impl SessionCount {
     }
 
     /// Counts so many of a quantity; where its number would pass the last one, none rises and that is kept.
+    #[inline(always)]
     fn count(&mut self, quantity: Quantity, amount: u64)
         ensures { Counts quantity amount self.old self.new }
     {
@@ -72,15 +73,20 @@ impl SessionCount {
         self.show(quantity, amount);
     }
 
-    /// So many of a quantity are seen in the live totals.
+    /// So many of a quantity are seen in the live totals. For none nothing is stored there: each store is an exchange, and
+    /// most answers forget no dead key.
     #[inline(always)]
     fn show(&self, quantity: Quantity, amount: u64) {
+        if amount == 0 {
+            return;
+        }
         if let Some(live) = &self.live {
             live.raise(quantity, amount);
         }
     }
 
     /// Counts a reply as its quantity, where it has one.
+    #[inline(always)]
     fn count_reply(&mut self, quantity: Option<Quantity>)
         ensures { CountsReply quantity self.old self.new }
     {
@@ -93,6 +99,7 @@ impl SessionCount {
 impl CountReplies for SessionCount {
     ghost count = { λ c. c };
 
+    #[inline(always)]
     fn count_answer(&mut self, quantity: Option<Quantity>, reaps: u32)
         ensures { CountsAnswer quantity reaps self.old self.new }
     {

@@ -20,6 +20,7 @@ pub struct Totals {
 }
 
 /// Raises a number. False where it would pass the last number; it stays then.
+#[inline(always)]
 fn raise(number: &mut u64, amount: u64) -> bool
     ensures { MatchBool result (number.new ≡ number.old + amount)
         ((number.new ≡ number.old) × (2 ^ 64 ≤ number.old + amount)) }
@@ -48,6 +49,7 @@ impl Totals {
     }
 
     /// Raises the number of a quantity. False where it would pass the last number; all stay then.
+    #[inline(always)]
     pub(crate) fn raise(&mut self, quantity: Quantity, amount: u64) -> bool
         ensures { MatchBool result (self.new ≡ raised quantity amount self.old)
             ((self.new ≡ self.old) × IsFull quantity self.old amount) }

@@ -9,6 +9,11 @@ use Rattle.riak_msgs.specs.declared.GetReply.{GetReply}
 use Rattle.riak_msgs.specs.declared.PutAsk.{PutAsk}
 use Rattle.riak_msgs.specs.declared.PutReply.{PutReply}
 use Rattle.riak_msgs.specs.declared.Shown.{Shown}
+use Rattle.riak_msgs.specs.declared.Text.TheVariants as texts
+use Rattle.riak_msgs.specs.declared.Reply.{Reply}
+use Rattle.riak_msgs.specs.declared.Reply.TheVariants as replies
+use Rattle.vnode_core.specs.declared.ask.Answer.{Answer}
+use Rattle.vnode_core.specs.declared.ask.Answer.TheVariants as answers
 use Rattle.clock_store.specs.declared.stored_clock.StoredClock.{StoredClock}
 use Rattle.actor_epoch.specs.declared.Actor.{Actor}
 use Rattle.actor_epoch.specs.declared.Dot.{Dot}
@@ -18,6 +23,16 @@ use Rattle.dvv_set.specs.Clocks.{DotState, event}
 use Rattle.dvv_set.specs.Held.{IsWithin, known_after, known_with, without}
 use Rattle.dvv_set.specs.References.{referred, with_values}
 use Rattle.vnode_machine.specs.Machine.{Stored, same_pairs}
+
+-- the reply for an answer. No request asks for a reap, which is replied to as a delete is; nor for a copy or a close, and of a
+-- vnode that is closed the caller's partition has moved on
+abbrev pub answer_reply : Answer → Reply
+answer_reply (answers.Put reply) = replies.Put reply
+answer_reply answers.Del = replies.Del
+answer_reply (answers.Reaped reaped) = replies.Del
+answer_reply answers.Copied = replies.Error texts.Moved
+answer_reply answers.Stuck = replies.Error texts.Moved
+answer_reply answers.Closed = replies.Error texts.Moved
 
 -- a reply that shows nothing
 abbrev pub nothing : GetReply

@@ -1,8 +1,11 @@
 //! What a vnode is asked to change, and what it answers.
 
+ghost use Rattle.std.specs.Prelude.{◌≡◌};
+ghost use Rattle.vnode_core.specs.Replies.{answer_reply};
+
 use crate::key_copy::KeyCopy;
 pub use clock_store::Reaped;
-use riak_msgs::{DelAsk, Key, PutAsk, PutReply};
+use riak_msgs::{DelAsk, Key, PutAsk, PutReply, Reply, Text};
 pub use rw_gate::Plan;
 
 /// A command that may change a vnode.
@@ -38,4 +41,20 @@ pub enum Answer {
     Stuck,
     /// To a close; and to whatever is asked of a vnode that is closed, where nothing changes.
     Closed,
+}
+
+/// The reply for an answer. No request asks for a reap, and one is replied to as a delete is; of a vnode that
+/// is closed, or that was asked for a copy, it is the error `moved`. It takes no memory.
+impl From<Answer> for Reply {
+    ghost from_gives = { λ answer reply. reply ≡ answer_reply answer };
+
+    #[inline(always)]
+    fn from(answer: Answer) -> Reply {
+        match answer {
+            Answer::Put(reply) => Reply::Put(reply),
+            Answer::Del => Reply::Del,
+            Answer::Reaped(Reaped::Gone | Reaped::Kept | Reaped::Absent) => Reply::Del,
+            Answer::Copied | Answer::Stuck | Answer::Closed => Reply::Error(Text::Moved),
+        }
+    }
 }

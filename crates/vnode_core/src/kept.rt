@@ -59,6 +59,7 @@ impl<S: ClockStore> Kept for VnodeOver<S> {
 
     ghost ready = { λ vnode logged. IsLoggable vnode logged.change logged.before.value };
 
+    #[inline(always)]
     fn prepare(
         &mut self,
         alloc: Global,
@@ -71,6 +72,7 @@ impl<S: ClockStore> Kept for VnodeOver<S> {
         }
     }
 
+    #[inline(always)]
     fn apply(&mut self, change: LoggedChange<S>) -> Answer {
         let LoggedChange { change, before: _ } = change;
         self.finish(change)

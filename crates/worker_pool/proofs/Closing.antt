@@ -7,7 +7,7 @@ use Rattle.node_session.specs.declared.ended.Ended.{Ended}
 use Rattle.node_session.specs.declared.fault.SessionFault.{SessionFault}
 use Rattle.node_session.specs.Session.{IsInputEnd}
 use Rattle.node_session.proofs.Standing.{answered_kept}
-use Rattle.node_session.specs.Courses.{IsOverBy}
+use Rattle.node_session.specs.Stages.{IsOverBy}
 use Rattle.node_session.proofs.Coming.{closing_stays}
 use Rattle.stats_book.specs.Counting.{both}
 use Rattle.stats_book.specs.declared.totals.Totals.{Totals}
@@ -15,8 +15,8 @@ use Rattle.gate_node.specs.Gates.{Gates}
 use Rattle.gate_node.specs.GateStep.{NodeOverGates, GateNodeStep}
 use Rattle.session_pool.specs.declared.left.EndedSession.{EndedSession}
 use Rattle.session_pool.specs.declared.left.Left.TheVariants as lefts
-use Rattle.session_pool.specs.Serving.{CountsInStay}
-use Rattle.session_pool.specs.Suspending.{first_node}
+use Rattle.session_pool.specs.Serving.{CountsInOpenSession}
+use Rattle.session_pool.specs.PausedSessions.{first_node}
 use Rattle.session_pool.proofs.Gathering.{none_both}
 use Rattle.worker_pool.specs.declared.job.Job.{Job}
 use Rattle.worker_pool.specs.declared.job.End.{End}
@@ -42,7 +42,7 @@ module _ {I O : Type 0} (remaining : I → Option (List ℕ)) (contents : O → 
 
   -- a session that never rests counts as the session of its job
   pub counts_in_session : (first last : Totals) (job : Job I O) (full : Bool) (ended : EndedSession I O) (reader : I) (writer : O) → Keeps (remaining ended.reader) (remaining reader) → Keeps (contents ended.writer) (contents writer)
-      → CountsInStay ⊥ remaining contents shared first (session_of remaining contents shared job) last (record { left = lefts.Ended ended; book_full = full })
+      → CountsInOpenSession ⊥ remaining contents shared first (session_of remaining contents shared job) last (record { left = lefts.Ended ended; book_full = full })
       → CountsInSession remaining contents shared first job last (record { end = record { result = ended.result; reader = reader; writer = writer; passes = ended.passes }; book_full = full })
   counts_in_session first last job full ended reader writer read written h =
       let before = first_node (session_of remaining contents shared job).origin in

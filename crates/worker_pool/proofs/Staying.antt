@@ -2,7 +2,7 @@
 use Rattle.std.proofs.Common.{◌≡◌, ◌∙◌, ℕ, Option, refl, sym, subst}
 use Rattle.std.specs.Prelude.{List, Result, Ok, Err}
 use Rattle.node_session.specs.Answered.{AnsweredInput}
-use Rattle.node_session.specs.Courses.{IsOverBy}
+use Rattle.node_session.specs.Stages.{IsOverBy}
 use Rattle.node_session.specs.Session.{IsInputEnd, Stops}
 use Rattle.node_session.specs.declared.ended.Ended.{Ended}
 use Rattle.node_session.specs.declared.fault.SessionFault.{SessionFault}

@@ -2,8 +2,6 @@
 use Rattle.std.specs.Prelude.{◌≡◌, ◌⊎◌, ℕ, true, List, [], ◌∷◌, Option, Result, map}
 use Rattle.job_pool.specs.Giving.{AllServed, GaveAll, GaveSome, GaveThenFailed}
 use Rattle.job_pool.specs.declared.jobs.JobFault.{JobFault}
-use Rattle.job_pool.specs.declared.fault.RunFault.{RunFault}
-use Rattle.job_pool.specs.declared.fault.RunFault.TheVariants as runs
 use Rattle.stats_book.specs.Counting.{ArePastFull, sum_of, zeros}
 use Rattle.stats_book.specs.declared.totals.Totals.{Totals}
 use Rattle.gate_node.specs.Gates.{Gates}
@@ -20,12 +18,6 @@ use Rattle.worker_pool.specs.Summing.{SumsSessions}
 abbrev pub MetFullBook : {I O : Type 0} → List (ServedJob I O) → Type 0
 MetFullBook [] = ⊥
 MetFullBook (served ∷ rest) = (served.book_full ≡ true) ⊎ MetFullBook rest
-
--- the fault for a fault of the workers' run
-abbrev pub pool_fault : RunFault → PoolFault
-pool_fault runs.NoMemory = NoMemory
-pool_fault runs.NoThread = NoThread
-pool_fault runs.JobsFailed = JobsFailed
 
 -- why there are no ends, where these jobs were served
 abbrev pub IsFaultOf : {I O : Type 0} → List (ServedJob I O) → PoolFault → Type 0

@@ -10,7 +10,7 @@ use Rattle.stats_book.specs.declared.totals.Totals.{Totals}
 pub use Rattle.gate_node.specs.Gates.{Gates}
 use Rattle.gate_node.specs.GateStep.{NodeOverGates, GateNodeStep, Request, Reply}
 pub use Rattle.gate_node.specs.Passes.{Sights, ArePassesOf, AreUnused}
-use Rattle.session_pool.specs.Suspending.{SuspendedView, StayView, StaysOver, begun}
+use Rattle.session_pool.specs.PausedSessions.{PausedSessionView, OpenSessionView, StaysOver, begun}
 use Rattle.worker_pool.specs.declared.job.Job.{Job}
 use Rattle.worker_pool.specs.declared.job.End.{End}
 use Rattle.worker_pool.specs.declared.server.ServedJob.{ServedJob}
@@ -72,7 +72,7 @@ module _ {I O : Type 0} where
         × Joins GateNodeStep remaining contents shared job served before after
 
     -- the job as a session that is to begin over the gates
-    abbrev pub session_of : Job I O → SuspendedView I O
+    abbrev pub session_of : Job I O → PausedSessionView I O
     session_of job = begun (record {
       gates = shared;
       passes = job.passes;
@@ -81,5 +81,5 @@ module _ {I O : Type 0} where
     }) job.reader job.writer
 
     -- the job's session went on over the gates
-    abbrev pub StandsFor : Job I O → StayView I O → Type 0
+    abbrev pub StandsFor : Job I O → OpenSessionView I O → Type 0
     StandsFor job opened = StaysOver shared (session_of job) opened

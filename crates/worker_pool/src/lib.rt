@@ -17,12 +17,12 @@
 //! What it costs: what a run of `job_pool` costs, and a thread for each worker. A tally is one look under a right to read, and a comparison of two
 //! numbers for each end.
 //!
-//! How it is built: each job is a session of `session_pool` which never rests, served by the host
-//! there; at its end the worker tells the streams so. The session has a node of its own, over the
-//! job's passes, which counts by itself. So what a step changes is that session's alone, and a
-//! worker may have many open. Clauses there let the gates of a session become later ones of its
-//! run. Of two gates of which each became the other both are the same (`proofs/SameGates`): so each
-//! step is one over the run's own gates. After the workers were joined a new pass of each gate
+//! How it is built: each job is a session of `session_pool` which never rests, served by the
+//! service there; at its end the worker tells the streams so. The session has a node of its own,
+//! over the job's passes, which counts by itself. So what a step changes is that session's alone,
+//! and a worker may have many open. Clauses there let the gates of a session become later ones of
+//! its run. Of two gates of which each became the other both are the same (`proofs/SameGates`): so
+//! each step is one over the run's own gates. After the workers were joined a new pass of each gate
 //! looks, and of two passes of a gate the one behind has seen a beginning of what the other has: so
 //! what that look shows is a history of which every session has seen a beginning.
 //!
@@ -58,4 +58,4 @@ pub use job::{End, EndRead, EndWrite, Job};
 pub use job_pool::{JobFault, Jobs, Post, StreamReadiness};
 pub use laws::pool_replies_are_legal;
 pub use pool::Pool;
-pub use stream_readiness::Shown;
+pub use stream_readiness::ShownStreams;

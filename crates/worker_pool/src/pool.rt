@@ -5,17 +5,17 @@ ghost use Rattle.stats_book.specs.Counting.{sum_of};
 ghost use Rattle.gate_node.specs.OneHistory.{ShareHistories};
 ghost use Rattle.worker_pool.specs.Serving.{IsForGates, WereOfRun, counted_whole, end_passes};
 ghost use Rattle.worker_pool.specs.Run.{ServesSource};
-ghost use Rattle.worker_pool.specs.Leaving.{LeavesSource, IsFaultAfter, IsFaultOf, pool_fault};
+ghost use Rattle.worker_pool.specs.Leaving.{LeavesSource, IsFaultAfter, IsFaultOf};
 
 use crate::closed::Closed;
 use crate::job::{End, EndRead, EndWrite, Job};
 use crate::server::{ServedJob, Server};
-use crate::stream_readiness::{Shown, new_rounds};
+use crate::stream_readiness::{ShownStreams, new_rounds};
 use gate_node::{PoolFault, Shared, Turnstile, tallies_of};
-use job_pool::{
-    Bell, Finished, Jobs, Post, Rounds, RunFault, StreamReadiness, Wake, Wakes, run_with,
+use job_pool::{Finished, Jobs, Post, Rounds, StreamReadiness, Wake, Wakes, Wakeup, run_with};
+use session_pool::{
+    NoPause, OfGates, SessionService, WorkerState, new_worker_states, pool_fault, sum_up,
 };
-use session_pool::{Host, NoPause, OfGates, Tray, new_trays, sum_up};
 use std::alloc::Global;
 use std::marker::Brand;
 use std::sync::Wait;
@@ -23,17 +23,6 @@ use std::thread::Threads;
 
 /// Workers that serve connections over the gates of a run.
 pub struct Pool;
-
-/// The fault of the run below.
-fn fault_of(fault: RunFault) -> PoolFault
-    ensures { result ≡ pool_fault fault }
-{
-    match fault {
-        RunFault::NoMemory => PoolFault::NoMemory,
-        RunFault::NoThread => PoolFault::NoThread,
-        RunFault::JobsFailed => PoolFault::JobsFailed,
-    }
-}
 
 /// The ends, where the book was full at none of them.
 fn whole_ends<I: Drop, O: Drop>(
@@ -60,7 +49,7 @@ fn finish<X, I, O>(
     rt: &X,
     alloc: Global,
     shared: &Shared,
-    finished: Finished<ServedJob<I, O>, Tray>,
+    finished: Finished<ServedJob<I, O>, WorkerState>,
 ) -> Result<Closed<I, O>, PoolFault>
 where
     X: Wait,
@@ -77,13 +66,13 @@ where
 {
     let Finished {
         ends: served,
-        workers: trays,
+        workers: worker_states,
     } = finished;
     let ends = match whole_ends(alloc, served) {
         Ok(ends) => ends,
         Err(fault) => return Err(fault),
     };
-    let Some(totals) = sum_up(trays) else {
+    let Some(totals) = sum_up(worker_states) else {
         return Err(PoolFault::BookFull);
     };
     match tallies_of(rt, alloc, shared, ends.as_slice()) {
@@ -104,7 +93,7 @@ fn run_at_posts<H, X, J, I, O, T, Y, B>(
     shared: &Shared,
     jobs: &mut J,
     workers: u16,
-    posts: Vec<Post<Shown<Y>, B>>,
+    posts: Vec<Post<ShownStreams<Y>, B>>,
     wakes: Wakes,
     turnstile: &T,
 ) -> Result<Closed<I, O>, PoolFault>
@@ -116,7 +105,7 @@ where
     O: EndWrite + Drop + Send + Sync,
     T: Turnstile + Sync,
     Y: StreamReadiness<I, O> + Drop + Send,
-    B: Bell + Drop,
+    B: Wakeup + Drop,
     requires of_run { shared.now ≡ H.gates }
     requires workers { 1 ≤ workers }
     requires posts { length posts.items ≡ workers }
@@ -127,15 +116,17 @@ where
     ensures fault { IfErr result (λ fault.
         LeavesSource J.gives I.remaining O.contents shared.now fault jobs.old jobs.new) }
 {
-    let Ok(trays) = new_trays(alloc, workers) else {
+    let Ok(worker_states) = new_worker_states(alloc, workers) else {
         return Err(PoolFault::NoMemory);
     };
     let server = Server {
-        host: Host::<H, X, T, NoPause, I, O>::new(rt, shared, turnstile, &NoPause),
+        session_service: SessionService::<H, X, T, NoPause, I, O>::new(
+            rt, shared, turnstile, &NoPause,
+        ),
     };
-    match run_with(rt, alloc, &server, jobs, trays, posts, wakes) {
+    match run_with(rt, alloc, &server, jobs, worker_states, posts, wakes) {
         Ok(finished) => finish(rt, alloc, shared, finished),
-        Err(fault) => Err(fault_of(fault)),
+        Err(fault) => Err(pool_fault(fault)),
     }
 }
 
@@ -206,7 +197,7 @@ impl Pool {
     }
 
     /// The same by a worker at each of these posts. The calling thread hands each job to a worker with the least load, by
-    /// its bell; how many sessions a worker has open, and which of them has its turn, its readiness says.
+    /// its wakeup; how many sessions a worker has open, and which of them has its turn, its readiness says.
     ///
     /// It returns if each call of the source and of the turnstile does, and each session is over after finitely many turns.
     pub fn run_with<X, J, I, O, T, Y, B>(
@@ -215,7 +206,7 @@ impl Pool {
         shared: &Shared,
         jobs: &mut J,
         workers: u16,
-        posts: Vec<Post<Shown<Y>, B>>,
+        posts: Vec<Post<ShownStreams<Y>, B>>,
         turnstile: &T,
     ) -> Result<Closed<I, O>, PoolFault>
     where
@@ -225,7 +216,7 @@ impl Pool {
         O: EndWrite + Drop + Send + Sync,
         T: Turnstile + Sync,
         Y: StreamReadiness<I, O> + Drop + Send,
-        B: Bell + Drop,
+        B: Wakeup + Drop,
         requires workers { (1 ≤ workers) × (workers ≤ 64) }
         requires posts { length posts.items ≡ workers }
         requires jobs { GivesOnly J.gives (IsForGates shared.now) jobs.old }

@@ -2,9 +2,10 @@
 
 use crate::job::{End, EndRead, EndWrite, Job};
 use gate_node::Turnstile;
-use job_pool::{Moved, Service};
+use job_pool::{Service, StepOutcome};
 use session_pool::{
-    EndedSession, Host, Left, LeftSession, NoPause, OfGates, Stay, Suspended, Tray,
+    EndedSession, Left, LeftSession, NoPause, OfGates, OpenSession, PausedSession, SessionService,
+    WorkerState,
 };
 use std::alloc::Global;
 use std::sync::Wait;
@@ -20,7 +21,7 @@ pub struct ServedJob<I, O> {
 /// workers share it.
 #[derive(Drop)]
 pub struct Server<'a, H: OfGates, X, T, I, O> {
-    pub(crate) host: Host<'a, H, X, T, NoPause, I, O>,
+    pub(crate) session_service: SessionService<'a, H, X, T, NoPause, I, O>,
 }
 
 impl<'a, H, X, T, I, O> Service for Server<'a, H, X, T, I, O>
@@ -35,49 +36,59 @@ where
 
     type End = ServedJob<I, O>;
 
-    type Worker = Tray;
+    type Worker = WorkerState;
 
-    type Open = Stay<'a, X, T, I, O>;
+    type Open = OpenSession<'a, X, T, I, O>;
 
-    ghost use Rattle.node_session.specs.Courses.{IsOver};
+    ghost use Rattle.node_session.specs.Stages.{IsOver};
     ghost use Rattle.worker_pool.specs.Serving.{IsForGates, CountsInSession, StandsFor};
 
-    ghost accepts = { λ server job. IsForGates server.host job };
+    ghost accepts = { λ server job. IsForGates server.session_service job };
 
     ghost stands = { λ server job opened.
-        StandsFor I.remaining O.contents server.host job opened };
+        StandsFor I.remaining O.contents server.session_service job opened };
 
-    ghost is_over = { λ opened. IsOver opened.stage };
+    ghost is_over = { λ opened. IsOver opened.session.stage };
 
-    ghost serves = { λ server. CountsInSession I.remaining O.contents server.host };
+    ghost serves = { λ server. CountsInSession I.remaining O.contents server.session_service };
 
     fn open(
         &self,
         alloc: Global,
-        worker: &mut Tray,
+        worker: &mut WorkerState,
         job: Job<I, O>,
-    ) -> Result<Stay<'a, X, T, I, O>, Job<I, O>> {
+    ) -> Result<OpenSession<'a, X, T, I, O>, Job<I, O>> {
         let Job {
             reader,
             writer,
             passes,
         } = job;
-        let session = Suspended::new(alloc, self.host.shared(), passes, reader, writer);
-        Ok(self.host.go_on(worker, session))
+        let session = PausedSession::new(
+            alloc,
+            self.session_service.shared(),
+            passes,
+            reader,
+            writer,
+        );
+        Ok(self.session_service.go_on(worker, session))
     }
 
     fn step(
         &self,
         alloc: Global,
-        worker: &mut Tray,
-        opened: &mut Stay<'a, X, T, I, O>,
+        worker: &mut WorkerState,
+        opened: &mut OpenSession<'a, X, T, I, O>,
         may_wait: bool,
-    ) -> Moved {
-        self.host.step(alloc, worker, opened, may_wait)
+    ) -> StepOutcome {
+        self.session_service.step(alloc, worker, opened, may_wait)
     }
 
-    fn close(&self, worker: &mut Tray, opened: Stay<'a, X, T, I, O>) -> ServedJob<I, O> {
-        let LeftSession { left, book_full } = self.host.leave(worker, opened);
+    fn close(
+        &self,
+        worker: &mut WorkerState,
+        opened: OpenSession<'a, X, T, I, O>,
+    ) -> ServedJob<I, O> {
+        let LeftSession { left, book_full } = self.session_service.leave(worker, opened);
         let Left::Ended(ended) = left else {
             unreachable!()
         };

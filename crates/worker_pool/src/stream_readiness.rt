@@ -4,18 +4,18 @@ ghost use Rattle.std.specs.Prelude.{◌≡◌, length, IfOk};
 use crate::job::{EndRead, EndWrite};
 use crate::server::Server;
 use gate_node::Turnstile;
-use job_pool::{Moved, Post, Readiness, Rounds, StreamReadiness, Turn, Wake};
-use session_pool::{OfGates, Stay};
+use job_pool::{Post, Readiness, Rounds, StepOutcome, StreamReadiness, Turn, Wake};
+use session_pool::{OfGates, OpenSession};
 use std::alloc::{AllocError, Global};
 use std::sync::Wait;
 
 /// What a worker of [`Pool::run_with`](crate::Pool::run_with) waits with: this, which is shown the streams of each session.
 #[derive(Drop)]
-pub struct Shown<Y> {
+pub struct ShownStreams<Y> {
     pub streams: Y,
 }
 
-impl<'a, Y, H, X, T, I, O> Readiness<Server<'a, H, X, T, I, O>> for Shown<Y>
+impl<'a, Y, H, X, T, I, O> Readiness<Server<'a, H, X, T, I, O>> for ShownStreams<Y>
 where
     Y: StreamReadiness<I, O>,
     H: OfGates + Sync,
@@ -28,7 +28,7 @@ where
         self.streams.takes(is_idle)
     }
 
-    fn begin(&mut self, slot: usize, opened: &Stay<'a, X, T, I, O>) {
+    fn begin(&mut self, slot: usize, opened: &OpenSession<'a, X, T, I, O>) {
         self.streams.begin(slot, opened.reader(), opened.writer());
     }
 
@@ -40,7 +40,7 @@ where
         self.streams.ends_turn(slot, before)
     }
 
-    fn after(&mut self, slot: usize, moved: Moved) {
+    fn after(&mut self, slot: usize, moved: StepOutcome) {
         self.streams.after(slot, moved);
     }
 
@@ -53,15 +53,15 @@ where
 pub(crate) fn new_rounds(
     alloc: Global,
     workers: u16,
-) -> Result<Vec<Post<Shown<Rounds>, Wake>>, AllocError>
+) -> Result<Vec<Post<ShownStreams<Rounds>, Wake>>, AllocError>
     ensures { IfOk result (λ posts. length posts.items ≡ workers) }
 {
     let mut posts = Vec::new(alloc);
     for _ in 0..workers {
-        let (streams, bell) = Rounds::new(alloc)?;
+        let (streams, wakeup) = Rounds::new(alloc)?;
         posts.push(Post {
-            readiness: Shown { streams },
-            bell,
+            readiness: ShownStreams { streams },
+            wakeup,
         })?;
     }
     Ok(posts)

@@ -8,9 +8,9 @@ use Rattle.job_pool.specs.declared.worker.NumberedEnd.{NumberedEnd}
 use Rattle.gate_node.specs.Gates.{Gates}
 use Rattle.gate_node.specs.Passes.{Sights}
 use Rattle.session_pool.specs.declared.end_sink.SessionEnd.{SessionEnd}
-use Rattle.session_pool.specs.declared.served.Served.{Served}
+use Rattle.session_pool.specs.declared.served_sessions.ServedSessions.{ServedSessions}
 use Rattle.session_pool.specs.Resuming.{IsLater}
-use Rattle.session_pool.specs.Suspending.{SuspendedView, CanGoOn}
+use Rattle.session_pool.specs.PausedSessions.{PausedSessionView, CanGoOn}
 use Rattle.session_pool.specs.Telling.{RestedSession, IsRestedSession, TellsAll, now_of}
 use Rattle.session_pool.proofs.Resuming.{later_on, later_same}
 
@@ -39,16 +39,16 @@ module _ {A : Type 0} where
 
 module _ {R W : Type 0} where
   module _ (may_rest : Type 0) (remaining : R → Option (List ℕ)) (contents : W → Option (List ℕ)) (shared : Gates) where
-    rested_go_on : (given : List (SuspendedView R W)) (rested : List (RestedSession R W)) → Every (IsRestedSession remaining contents shared given may_rest) rested → Every (CanGoOn shared) (map now_of rested)
+    rested_go_on : (given : List (PausedSessionView R W)) (rested : List (RestedSession R W)) → Every (IsRestedSession remaining contents shared given may_rest) rested → Every (CanGoOn shared) (map now_of rested)
     rested_go_on given [] h = tt
     rested_go_on given (one ∷ rested) h =
         (record { later = subst (λ (gates : Gates). IsLater gates shared) (sym h.0.rests.over) (later_same shared); room = h.0.rests.room refl }, rested_go_on given rested h.1)
 
     -- what rests of a run may go on over its gates
-    pub rest_goes_on : {K : Type 0} (told : K → List (NumberedEnd (SessionEnd R W))) (given : List (SuspendedView R W)) (first : Sights) (served : Served R W K) (seen : Sights)
+    pub rest_goes_on : {K : Type 0} (told : K → List (NumberedEnd (SessionEnd R W))) (given : List (PausedSessionView R W)) (first : Sights) (served : ServedSessions R W K) (seen : Sights)
         → TellsAll may_rest remaining contents told shared given first served seen → Every (CanGoOn shared) (concat (map (λ one. one.items) served.resting.items))
     rest_goes_on told given first served seen tells = subst (Every (CanGoOn shared)) tells.rests (rested_go_on given tells.rested tells.each_rests)
 
   -- and over what they become
-  pub goes_on_later : (old new : Gates) (sessions : List (SuspendedView R W)) → IsLater old new → Every (CanGoOn old) sessions → Every (CanGoOn new) sessions
+  pub goes_on_later : (old new : Gates) (sessions : List (PausedSessionView R W)) → IsLater old new → Every (CanGoOn old) sessions → Every (CanGoOn new) sessions
   goes_on_later old new sessions later = all_more (λ one may. record { later = later_on one.over old new may.later later; room = may.room }) sessions

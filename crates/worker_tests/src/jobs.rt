@@ -1,7 +1,7 @@
 //! What the services and the sources of the tests are, and one run with them.
 ghost use Rattle.std.specs.Prelude.{◌≡◌, ◌<◌};
 
-use job_pool::{Finished, JobFault, Jobs, Moved, RunFault, Service, run};
+use job_pool::{Finished, JobFault, Jobs, RunFault, Service, StepOutcome, run};
 use std::alloc::{AllocError, Global};
 use std::sync::Wait;
 use std::sync::atomic::{AtomicU64, Ordering};
@@ -57,8 +57,8 @@ impl<'a> Service for Multiplier<'a> {
         _worker: &mut Tally,
         _opened: &mut u32,
         _may_wait: bool,
-    ) -> Moved {
-        Moved::Over
+    ) -> StepOutcome {
+        StepOutcome::Over
     }
 
     fn close(&self, worker: &mut Tally, opened: u32) -> u64 {

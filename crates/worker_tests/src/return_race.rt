@@ -13,8 +13,9 @@ use std::test::*;
 use std::thread;
 use std::thread::{Threads, map_indices};
 
-/// How many calls a thread makes at most.
-const CALLS: u32 = 10_000_000;
+/// How many calls a thread makes at most: many times what the race takes, and few enough that a thread whose partners
+/// were refused memory gives up within seconds.
+const CALLS: u32 = 100_000;
 
 /// How often another thread may run before the end of the diversion is tried again.
 const YIELDS: u32 = 50;
@@ -22,11 +23,12 @@ const YIELDS: u32 = 50;
 /// How often forty keys come back so.
 const ROUNDS: u32 = 2;
 
-/// Copies one key, again and again, until the fallback is found closed. Whether that came to be.
+/// Copies one key, again and again, until the fallback is found closed, and lets other threads run between. Whether that
+/// came to be.
 fn copy_until_closed<W: Wait>(rt: &W, alloc: Global, handoff: &Handoff) -> bool {
     for _ in 0..CALLS {
         match handoff.copy_back(rt, alloc, 0, 1) {
-            Ok(_) => {}
+            Ok(_) => thread::yield_now(),
             Err(HandoffFault::NotDiverted(Some(_))) => return true,
             Err(_) => return false,
         }

@@ -5,7 +5,7 @@ mod readers;
 mod resting;
 mod runs;
 mod script;
-mod seats;
 mod served;
+mod serving_setups;
 mod sessions;
 mod streams;

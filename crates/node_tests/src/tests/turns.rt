@@ -1,12 +1,12 @@
 //! A session over streams that need not wait, taken step by step to its end.
 
-ghost use Rattle.node_session.specs.Courses.{Fits};
+ghost use Rattle.node_session.specs.Stages.{Fits};
 ghost use Rattle.std.specs.Prelude.{◌<◌};
 
 use crate::tests::frames::{PING, PONG, STORED};
 use crate::tests::sessions::{Part, Session, joined};
 use crate::tests::streams::{Call, Channel, Trouble, attempt};
-use node_session::{Course, Ended, PlainNode, Scratch, SessionFault};
+use node_session::{Ended, PlainNode, Scratch, SessionFault};
 use std::alloc::Global;
 use std::cell::Cell;
 use std::io;
@@ -79,19 +79,19 @@ impl Write for Comparing<'_> {
 /// Takes steps to the end, and returns what came of the session. One that would have to wait takes its next step all the same.
 fn outcome_of(
     alloc: Global,
-    course: &mut Course,
+    session: &mut node_session::Session,
     source: &mut Giving,
     sink: &mut Comparing,
     node: &mut PlainNode,
     scratch: &mut Scratch,
 ) -> Option<Result<Ended, SessionFault>>
-    requires { Fits course.old.stage course.old.talk }
+    requires { Fits session.old.stage session.old }
 {
     for _ in 0..1_000_000u32 {
-        if let Some(result) = course.outcome() {
+        if let Some(result) = session.outcome() {
             return Some(result);
         }
-        let _waits = course.step(alloc, source, sink, node, scratch);
+        let _waits = session.step(alloc, source, sink, node, scratch);
     }
     None
 }
@@ -127,11 +127,11 @@ pub fn comes_so(alloc: Global, row: &Carried) -> bool {
         writes: 0,
         left: &left,
     };
-    let mut course = Course::new(alloc, MAX_READS);
+    let mut session = node_session::Session::new(alloc, MAX_READS);
     let mut scratch = Scratch::new(alloc);
     let end = outcome_of(
         alloc,
-        &mut course,
+        &mut session,
         &mut source,
         &mut sink,
         &mut node,
@@ -179,13 +179,13 @@ fn runs_between_marks(alloc: Global, input: &[u8], output: &[u8], piece: usize) 
         left: &left,
     };
     let mut scratch = Scratch::new(alloc);
-    let mut course = Course::new(alloc, MAX_READS);
+    let mut session = node_session::Session::new(alloc, MAX_READS);
     if !scratch.make_room() || !mark(alloc) {
         return None;
     }
     let end = outcome_of(
         alloc,
-        &mut course,
+        &mut session,
         &mut source,
         &mut sink,
         &mut node,
@@ -195,7 +195,7 @@ fn runs_between_marks(alloc: Global, input: &[u8], output: &[u8], piece: usize) 
         Some(Ok(end)) if mark(alloc) && left.get() == 0 => Some(Ran {
             end,
             reads: source.reads,
-            made: course.talk.made,
+            made: session.made,
         }),
         _ => None,
     }

@@ -2,7 +2,7 @@
 ghost use Rattle.std.specs.Prelude.{◌≡◌};
 
 use crate::jobs::{Numbers, doubled};
-use job_pool::{JobFault, Jobs, Moved, RunFault, Service, run};
+use job_pool::{JobFault, Jobs, RunFault, Service, StepOutcome, run};
 use std::alloc::Global;
 use std::process::Abort;
 use std::sync::Wait;
@@ -111,7 +111,13 @@ impl Service for Counter<'_> {
         Ok(job)
     }
 
-    fn step(&self, _alloc: Global, _worker: &mut (), _opened: &mut u32, _may_wait: bool) -> Moved {
+    fn step(
+        &self,
+        _alloc: Global,
+        _worker: &mut (),
+        _opened: &mut u32,
+        _may_wait: bool,
+    ) -> StepOutcome {
         for _ in 0..TURNS {
             if self.has_failed.load(Ordering::SeqCst) > 0 {
                 break;
@@ -121,7 +127,7 @@ impl Service for Counter<'_> {
         for _ in 0..TURNS_AFTER {
             thread::yield_now();
         }
-        Moved::Over
+        StepOutcome::Over
     }
 
     fn close(&self, _worker: &mut (), opened: u32) -> u32 {

@@ -1,6 +1,6 @@
 //! A service that waits for a lock, by a handle of its own.
 use crate::jobs::Numbers;
-use job_pool::{Moved, Service, run};
+use job_pool::{Service, StepOutcome, run};
 use std::alloc::Global;
 use std::process::Abort;
 use std::sync::{Mutex, Wait};
@@ -37,10 +37,16 @@ impl<'a, T: Wait + Sync> Service for Adder<'a, T> {
         Ok(job)
     }
 
-    fn step(&self, _alloc: Global, _worker: &mut (), opened: &mut u32, _may_wait: bool) -> Moved {
+    fn step(
+        &self,
+        _alloc: Global,
+        _worker: &mut (),
+        opened: &mut u32,
+        _may_wait: bool,
+    ) -> StepOutcome {
         let mut sum = self.sum.lock(self.rt);
         *sum = sum.saturating_add(u64::from(*opened));
-        Moved::Over
+        StepOutcome::Over
     }
 
     fn close(&self, _worker: &mut (), opened: u32) -> u32 {

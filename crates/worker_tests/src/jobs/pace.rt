@@ -2,7 +2,7 @@
 ghost use Rattle.std.specs.Prelude.{◌≡◌};
 
 use crate::jobs::wait_for;
-use job_pool::{JobFault, Jobs, MAX_WAITING, Moved, Service, run};
+use job_pool::{JobFault, Jobs, MAX_WAITING, Service, StepOutcome, run};
 use std::alloc::Global;
 use std::process::Abort;
 use std::rt::Clock;
@@ -189,15 +189,21 @@ impl<R: Clock + Sync> Service for Holding<'_, R> {
         Ok(job)
     }
 
-    fn step(&self, _alloc: Global, _worker: &mut (), opened: &mut u32, _may_wait: bool) -> Moved {
+    fn step(
+        &self,
+        _alloc: Global,
+        _worker: &mut (),
+        opened: &mut u32,
+        _may_wait: bool,
+    ) -> StepOutcome {
         if *opened == self.row.steps {
             self.hold();
         }
         *opened = opened.saturating_sub(1);
         if *opened == 0 {
-            Moved::Over
+            StepOutcome::Over
         } else {
-            Moved::Going
+            StepOutcome::Going
         }
     }
 

@@ -3,9 +3,9 @@ ghost use Rattle.std.specs.Prelude.{◌≡◌, ◌<◌, length};
 
 mod posts;
 
-use crate::jobs::turns::posts::stations_of;
+use crate::jobs::turns::posts::worker_setups_of;
 use crate::jobs::wait_for;
-use job_pool::{JobFault, Jobs, Moved, Service, run_at};
+use job_pool::{JobFault, Jobs, Service, StepOutcome, run_at};
 use std::alloc::Global;
 use std::process::Abort;
 use std::sync::Wait;
@@ -30,7 +30,7 @@ const SHORT: Work = Work {
 pub struct Row {
     shows: &'static str,
     jobs: &'static [Work],
-    /// What the bell of the first worker tells as its load, and those of the others, where there are two more.
+    /// What the wakeup of the first worker tells as its load, and those of the others, where there are two more.
     load: usize,
     others: Option<(usize, usize)>,
     may_wait: bool,
@@ -38,7 +38,7 @@ pub struct Row {
     most_steps: u32,
     /// No job has its turn before so many were opened.
     begun: u64,
-    /// Whether a bell that is rung waits for the end of the job that it was rung for.
+    /// Whether a wakeup that is rung waits for the end of the job that it was rung for.
     one_by_one: bool,
     /// Whether there is memory for a job alone where the service gave some up.
     is_short: bool,
@@ -52,7 +52,7 @@ pub struct Row {
     steps: u64,
     /// The steps of all jobs as they were shown.
     shown: u64,
-    /// How often each bell was rung.
+    /// How often each wakeup was rung.
     rings: (u64, u64, u64),
 }
 
@@ -210,7 +210,7 @@ impl Seen {
             && self.over.load(Ordering::SeqCst) == row.over
     }
 
-    /// Whether each bell was rung as often as the row says.
+    /// Whether each wakeup was rung as often as the row says.
     fn had_rings(&self, row: &Row) -> bool {
         let (first, second, third) = row.rings;
         self.first_rings.load(Ordering::SeqCst) == first
@@ -302,17 +302,27 @@ impl Service for Stepping<'_> {
         true
     }
 
-    fn step(&self, _alloc: Global, _worker: &mut (), opened: &mut Doing, may_wait: bool) -> Moved {
+    fn step(
+        &self,
+        _alloc: Global,
+        _worker: &mut (),
+        opened: &mut Doing,
+        may_wait: bool,
+    ) -> StepOutcome {
         if opened.taken == opened.work.waits_after && !opened.has_waited {
             opened.has_waited = true;
-            return if may_wait { Moved::Waits } else { Moved::Over };
+            return if may_wait {
+                StepOutcome::Waits
+            } else {
+                StepOutcome::Over
+            };
         }
         opened.taken = opened.taken.saturating_add(1);
         self.seen.steps.fetch_add(1, Ordering::SeqCst);
         if opened.taken >= opened.work.steps {
-            Moved::Over
+            StepOutcome::Over
         } else {
-            Moved::Going
+            StepOutcome::Going
         }
     }
 
@@ -324,10 +334,10 @@ impl Service for Stepping<'_> {
 /// Whether the row's jobs are served as it says.
 fn is_served<T: Threads + Wait + Sync>(rt: &T, alloc: Global, row: &Row) -> bool {
     let seen = Seen::new();
-    let Ok(stations) = stations_of(alloc, &*row, &seen) else {
+    let Ok(worker_setups) = worker_setups_of(alloc, &*row, &seen) else {
         return false;
     };
-    if stations.is_empty() {
+    if worker_setups.is_empty() {
         return false;
     }
     let service = Stepping { seen: &seen };
@@ -335,7 +345,7 @@ fn is_served<T: Threads + Wait + Sync>(rt: &T, alloc: Global, row: &Row) -> bool
         left: row.jobs,
         seen: &seen,
     };
-    let is_done = match run_at(rt, alloc, &service, &mut source, stations) {
+    let is_done = match run_at(rt, alloc, &service, &mut source, worker_setups) {
         Ok(told) => told.given == row.jobs.len() && told.refused == 0,
         Err(_) => false,
     };

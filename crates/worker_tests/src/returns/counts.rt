@@ -7,15 +7,23 @@ use crate::returns::{
     play_course,
 };
 use handoff::Handoff;
-use key_counts::{KeyCounts, count_partitions, total_of};
+use key_counts::{KeyCounts, count_all, count_partitions, total_of};
 use stats_book::Totals;
 use std::alloc::Global;
 use std::process::Abort;
 use std::sync::Wait;
 use std::test::*;
 
-/// Whether the vnodes of all partitions store so much together.
+/// Whether the vnodes of all partitions store so much together, by the sums of a list and by those without one.
 pub fn are_stored<W: Wait>(rt: &W, alloc: Global, handoff: &Handoff, wanted: &KeyCounts) -> bool {
+    match count_all(rt, alloc, handoff) {
+        Ok(counts) => counts == *wanted && are_listed(rt, alloc, handoff, wanted),
+        Err(_) => false,
+    }
+}
+
+/// Whether those of all that are listed do.
+fn are_listed<W: Wait>(rt: &W, alloc: Global, handoff: &Handoff, wanted: &KeyCounts) -> bool {
     match count_partitions(rt, alloc, handoff) {
         Ok(partitions) => total_of(partitions.as_slice()) == *wanted,
         Err(_) => false,

@@ -4,7 +4,9 @@ use crate::serving::clients::{Action, Ports, Step, take_all};
 use crate::serving::listener::listen;
 use log::sink::Locked;
 use log::{LevelFilter, Log, Logged};
-use node_commands::{Controlled, ServeFault, UntilSettings, Waiting, serve_controlled};
+use node_commands::{
+    Controlled, ServeFault, ServerSettings, ServingOptions, Waiting, serve_controlled,
+};
 use ring_map::Ring;
 use std::alloc::Global;
 use std::io::{ErrorKind, Read, Write};
@@ -162,7 +164,7 @@ const SERVERS: &[Controls] = &[
         operators: &[
             b"totals\ndiverted\ncopy 0 1\nreturn 0\ndivert 0\ndiverted\ndivert 0\ncopy 0 1\nreturn 0\ncopy 0 1\ndivert 1\ncopy 7 1\nreturn 9\nDivert 0\ndivert 0\r\nstop\ntotals\n",
         ],
-        answers: b"gets 0 puts 0 deletes 0 refusals 0 reaps 0 connections 0 keys 0 siblings 0 dead 0 bytes 0\ndiverted now:\nrefused: partition 0 isn't diverted\nrefused: partition 0 isn't diverted\ndiverted 0\ndiverted now: 0 for # s\nrefused: partition 0 is diverted already\ncopied 0 keys 0 whole\nreturned 0\nrefused: partition 0 isn't diverted\nrefused: there is no partition 1\nrefused: there is no partition 7\nrefused: there is no partition 9\nrefused: no such command; help lists them\ndiverted 0\n",
+        answers: b"gets 0 puts 0 deletes 0 refusals 0 reaps 0 connections 0 keys 0 siblings 0 dead 0 bytes 0 puts_refused 0\ndiverted now:\nrefused: partition 0 isn't diverted\nrefused: partition 0 isn't diverted\ndiverted 0\ndiverted now: 0 for # s\nrefused: partition 0 is diverted already\ncopied 0 keys 0 whole\nreturned 0\nrefused: partition 0 isn't diverted\nrefused: there is no partition 1\nrefused: there is no partition 7\nrefused: there is no partition 9\nrefused: no such command; help lists them\ndiverted 0\n",
         steps: &[],
         connections: 0,
         returned: 1,
@@ -240,16 +242,18 @@ fn serves<'a, R: Log + Clock + Net + Threads + Wait + Sync>(
     if controls.workers < 1 || controls.workers > 64 {
         return false;
     }
-    let settings = UntilSettings {
-        connections: None,
-        workers: controls.workers,
+    let settings = ServerSettings {
         ring,
-        run: 1,
-        sweep: 0,
-        waiting: Waiting {
-            idle_seconds: None,
-            spin_micros: Some(50),
-            replies_bytes: None,
+        options: ServingOptions {
+            connections: None,
+            waiting: Waiting {
+                idle_seconds: None,
+                spin_micros: Some(50),
+                replies_bytes: None,
+            },
+            workers: controls.workers,
+            run: 1,
+            sweep: 0,
         },
     };
     let (unanswered, unwritten) = (AtomicUsize::new(1), AtomicUsize::new(1));

@@ -10,7 +10,7 @@ use crate::serving::served::{
 };
 use log::sink::Locked;
 use log::{LevelFilter, Log, Logged};
-use node_commands::{UntilSettings, Waiting, serve_on_until};
+use node_commands::{ServerSettings, ServingOptions, Waiting, serve_on_until};
 use ring_map::Ring;
 use std::alloc::Global;
 use std::io::{ErrorKind, Read};
@@ -315,13 +315,15 @@ fn serves<R: Log + Clock + Net + Threads + Wait + Sync>(
     if server.workers < 1 || server.workers > 64 {
         return false;
     }
-    let settings = UntilSettings {
-        connections: server.limit,
-        workers: server.workers,
+    let settings = ServerSettings {
         ring,
-        run: 1,
-        sweep: 0,
-        waiting: server.waiting,
+        options: ServingOptions {
+            connections: server.limit,
+            waiting: server.waiting,
+            workers: server.workers,
+            run: 1,
+            sweep: 0,
+        },
     };
     let mut written = Vec::new(alloc);
     let input = if server.has_input {

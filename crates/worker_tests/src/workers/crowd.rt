@@ -2,13 +2,13 @@
 ghost use Rattle.std.specs.Prelude.{◌+◌, ◌≤◌, length, vec_len, vec_capacity};
 ghost use Rattle.job_pool.specs.Lists.{Every};
 ghost use Rattle.gate_node.specs.Passes.{ArePassesOf};
-ghost use Rattle.session_pool.specs.Tellers.{IsNewSeat};
+ghost use Rattle.session_pool.specs.EndReporters.{IsNewServingSetup};
 
 use crate::exchanges::{NOTHING_ACCEPTED, NOTHING_COUNTED, new_shared};
 use crate::workers::runs::{GET_ABSENT, Run};
 use crate::workers::script::Wires;
-use crate::workers::seats::{TestSeat, seats_apart};
 use crate::workers::served::is_served;
+use crate::workers::serving_setups::{TestServingSetup, serving_setups_apart};
 use crate::workers::sessions::{TestServed, play_new};
 use crate::workers::streams::Counts;
 use session_pool::{Passes, Shared};
@@ -46,26 +46,26 @@ fn has_each_one(served: &TestServed) -> bool {
     served.sinks.len() == usize::from(WORKERS)
 }
 
-/// Whether each worker of these seats serves one session over these gates as it should be.
-fn serve_seated<X: Threads + Wait + Sync>(
+/// Whether each worker of these setups serves one session over these gates as it should be.
+fn serve_by_setups<X: Threads + Wait + Sync>(
     rt: &X,
     shared: &Shared,
     wires: Wires<'_>,
-    seats: Vec<TestSeat>,
+    serving_setups: Vec<TestServingSetup>,
     seen: &mut Passes,
 ) -> bool
     requires seen { ArePassesOf shared.now seen.old }
-    requires count { (1 ≤ length seats.items) × (length seats.items ≤ 64) }
-    requires new { Every (IsNewSeat (λ sink. sink.ends.items)
-        (λ sink n. vec_len sink.ends + n ≤ vec_capacity sink.ends)) seats.items }
+    requires count { (1 ≤ length serving_setups.items) × (length serving_setups.items ≤ 64) }
+    requires new { Every (IsNewServingSetup (λ sink. sink.ends.items)
+        (λ sink n. vec_len sink.ends + n ≤ vec_capacity sink.ends)) serving_setups.items }
 {
-    match play_new(rt, shared, wires, FORTY, seats, seen) {
+    match play_new(rt, shared, wires, FORTY, serving_setups, seen) {
         Ok(served) => is_served(&served, FORTY, true) && has_each_one(&served),
         Err(_) => false,
     }
 }
 
-/// The same by forty new seats.
+/// The same by forty new setups.
 fn serve_forty<X: Threads + Wait + Sync>(
     rt: &X,
     shared: &Shared,
@@ -74,8 +74,8 @@ fn serve_forty<X: Threads + Wait + Sync>(
 ) -> bool
     requires { ArePassesOf shared.now seen.old }
 {
-    match seats_apart(wires.alloc, WORKERS, wires.counts) {
-        Ok(seats) => serve_seated(rt, shared, wires, seats, seen),
+    match serving_setups_apart(wires.alloc, WORKERS, wires.counts) {
+        Ok(serving_setups) => serve_by_setups(rt, shared, wires, serving_setups, seen),
         Err(_) => false,
     }
 }

@@ -3,8 +3,8 @@ ghost use Rattle.std.specs.Prelude.{◌≡◌, ◌+◌, ◌≤◌, length, map, 
 ghost use Rattle.job_pool.specs.Lists.{Every, concat};
 ghost use Rattle.gate_node.specs.Gates.{Gates};
 ghost use Rattle.gate_node.specs.Passes.{ArePassesOf};
-ghost use Rattle.session_pool.specs.Suspending.{CanGoOn};
-ghost use Rattle.session_pool.specs.Tellers.{IsNewSeat};
+ghost use Rattle.session_pool.specs.PausedSessions.{CanGoOn};
+ghost use Rattle.session_pool.specs.EndReporters.{IsNewServingSetup};
 
 mod counted;
 mod cuts;
@@ -14,10 +14,10 @@ mod turned;
 use crate::exchanges::NOTHING_COUNTED;
 use crate::workers::resting::counted::is_counted;
 use crate::workers::script::{Line, Wires};
-use crate::workers::seats::{TestSeat, new_seats};
+use crate::workers::serving_setups::{TestServingSetup, new_serving_setups};
 use crate::workers::sessions::{AfterLooks, Sessions, TestServed, TestSession, play};
 use crate::workers::streams::Counts;
-use session_pool::{Passes, Pause, Served, Shared};
+use session_pool::{Passes, Pause, ServedSessions, Shared};
 use stats_book::Totals;
 use std::alloc::Global;
 use std::mem;
@@ -126,7 +126,7 @@ fn order_of(
 fn resting_of(served: TestServed) -> Vec<Vec<TestSession>>
     ensures { result ≡ served.resting }
 {
-    let Served { resting, .. } = served;
+    let ServedSessions { resting, .. } = served;
     resting
 }
 
@@ -242,22 +242,22 @@ fn take_served(
     put_resting(alloc, resting_of(served), stage) && is_right
 }
 
-/// The same of a run of what rests and of new sessions by these seats, whose streams are made by these wires.
-fn run_seated<'x, X: Threads + Wait + Sync, Q: Pause + Sync>(
+/// The same of a run of what rests and of new sessions by these setups, whose streams are made by these wires.
+fn run_by_setups<'x, X: Threads + Wait + Sync, Q: Pause + Sync>(
     rt: &X,
     shared: &'x Shared,
     wires: Wires<'x>,
     lines: &'x [Line],
     plan: &Plan,
-    seats: Vec<TestSeat>,
+    serving_setups: Vec<TestServingSetup>,
     pause: &Q,
     stage: &mut Stage,
 ) -> bool
     requires rest { Every (CanGoOn shared.now) stage.old.resting.items }
     requires seen { ArePassesOf shared.now stage.old.seen }
-    requires count { (1 ≤ length seats.items) × (length seats.items ≤ 2) }
-    requires new { Every (IsNewSeat (λ sink. sink.ends.items)
-        (λ sink n. vec_len sink.ends + n ≤ vec_capacity sink.ends)) seats.items }
+    requires count { (1 ≤ length serving_setups.items) × (length serving_setups.items ≤ 2) }
+    requires new { Every (IsNewServingSetup (λ sink. sink.ends.items)
+        (λ sink n. vec_len sink.ends + n ≤ vec_capacity sink.ends)) serving_setups.items }
     ensures rest { Every (CanGoOn shared.now) stage.new.resting.items }
     ensures seen { ArePassesOf shared.now stage.new.seen }
 {
@@ -272,13 +272,13 @@ fn run_seated<'x, X: Threads + Wait + Sync, Q: Pause + Sync>(
         number,
         fails: false,
     };
-    match play(rt, shared, sessions, seats, pause, &mut stage.seen) {
+    match play(rt, shared, sessions, serving_setups, pause, &mut stage.seen) {
         Ok(served) => take_served(wires.alloc, lines, plan, served, stage),
         Err(_) => false,
     }
 }
 
-/// The same by new seats.
+/// The same by new setups.
 fn run_planned<'x, X: Threads + Wait + Sync, Q: Pause + Sync>(
     rt: &X,
     shared: &'x Shared,
@@ -295,8 +295,17 @@ fn run_planned<'x, X: Threads + Wait + Sync, Q: Pause + Sync>(
     ensures seen { ArePassesOf shared.now stage.new.seen }
 {
     let rooms = rooms_of(manner, stage);
-    match new_seats(wires.alloc, manner.are_two, rooms, wires.counts) {
-        Ok(seats) => run_seated(rt, shared, wires, lines, plan, seats, pause, stage),
+    match new_serving_setups(wires.alloc, manner.are_two, rooms, wires.counts) {
+        Ok(serving_setups) => run_by_setups(
+            rt,
+            shared,
+            wires,
+            lines,
+            plan,
+            serving_setups,
+            pause,
+            stage,
+        ),
         Err(_) => false,
     }
 }

@@ -2,13 +2,13 @@
 ghost use Rattle.std.specs.Prelude.{◌+◌, ◌≤◌, length, vec_len, vec_capacity};
 ghost use Rattle.job_pool.specs.Lists.{Every};
 ghost use Rattle.gate_node.specs.Passes.{ArePassesOf};
-ghost use Rattle.session_pool.specs.Tellers.{IsNewSeat};
+ghost use Rattle.session_pool.specs.EndReporters.{IsNewServingSetup};
 
 use crate::exchanges::{NOTHING_ACCEPTED, NOTHING_COUNTED, new_shared};
 use crate::workers::kept_ends::KeptEnds;
 use crate::workers::runs::{RUNS, Run, THREE_JOBS, are_streams, are_tallies, is_accepted};
 use crate::workers::script::{Line, Wires};
-use crate::workers::seats::{TestSeat, live_of, new_seats};
+use crate::workers::serving_setups::{TestServingSetup, live_of, new_serving_setups};
 use crate::workers::sessions::{TestServed, play_new};
 use crate::workers::streams::{Counts, Input, Output};
 use gate_node::tallies_of;
@@ -133,25 +133,25 @@ pub fn has_tallies<X: Wait>(
     }
 }
 
-/// Whether a run over these gates by these seats comes to what it says, also where it fails.
-fn serve_seated<X: Threads + Wait + Sync>(
+/// Whether a run over these gates by these setups comes to what it says, also where it fails.
+fn serve_by_setups<X: Threads + Wait + Sync>(
     rt: &X,
     shared: &Shared,
     wires: Wires<'_>,
     run: &Run,
-    seats: Vec<TestSeat>,
+    serving_setups: Vec<TestServingSetup>,
     seen: &mut Passes,
     has_room: bool,
 ) -> bool
     requires seen { ArePassesOf shared.now seen.old }
-    requires count { (1 ≤ length seats.items) × (length seats.items ≤ 64) }
-    requires new { Every (IsNewSeat (λ sink. sink.ends.items)
-        (λ sink n. vec_len sink.ends + n ≤ vec_capacity sink.ends)) seats.items }
+    requires count { (1 ≤ length serving_setups.items) × (length serving_setups.items ≤ 64) }
+    requires new { Every (IsNewServingSetup (λ sink. sink.ends.items)
+        (λ sink n. vec_len sink.ends + n ≤ vec_capacity sink.ends)) serving_setups.items }
 {
-    let Ok(live) = live_of(wires.alloc, seats.as_slice()) else {
+    let Ok(live) = live_of(wires.alloc, serving_setups.as_slice()) else {
         return false;
     };
-    match play_new(rt, shared, wires, run, seats, seen) {
+    match play_new(rt, shared, wires, run, serving_setups, seen) {
         Ok(served) => {
             is_served(&served, run, has_room)
                 && are_live(live.as_slice(), served.totals)
@@ -161,7 +161,7 @@ fn serve_seated<X: Threads + Wait + Sync>(
     }
 }
 
-/// The same by two new seats.
+/// The same by two new setups.
 fn serve_by_two<X: Threads + Wait + Sync>(
     rt: &X,
     shared: &Shared,
@@ -173,8 +173,16 @@ fn serve_by_two<X: Threads + Wait + Sync>(
     requires { ArePassesOf shared.now seen.old }
 {
     let rooms = if has_room { u32::MAX } else { 0 };
-    match new_seats(wires.alloc, true, rooms, wires.counts) {
-        Ok(seats) => serve_seated(rt, shared, wires, run, seats, seen, has_room),
+    match new_serving_setups(wires.alloc, true, rooms, wires.counts) {
+        Ok(serving_setups) => serve_by_setups(
+            rt,
+            shared,
+            wires,
+            run,
+            serving_setups,
+            seen,
+            has_room,
+        ),
         Err(_) => false,
     }
 }

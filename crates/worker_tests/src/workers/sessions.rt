@@ -4,16 +4,17 @@ ghost use Rattle.std.specs.Prelude.{IfSome};
 ghost use Rattle.job_pool.specs.Lists.{Every, concat};
 ghost use Rattle.gate_node.specs.Gates.{Gates};
 ghost use Rattle.gate_node.specs.Passes.{ArePassesOf};
-ghost use Rattle.session_pool.specs.Suspending.{CanGoOn};
-ghost use Rattle.session_pool.specs.Tellers.{IsNewSeat};
+ghost use Rattle.session_pool.specs.PausedSessions.{CanGoOn};
+ghost use Rattle.session_pool.specs.EndReporters.{IsNewServingSetup};
 
 use crate::workers::kept_ends::KeptEnds;
 use crate::workers::runs::Run;
 use crate::workers::script::{Line, Wires, streams_of};
-use crate::workers::seats::TestSeat;
+use crate::workers::serving_setups::TestServingSetup;
 use crate::workers::streams::{Counts, Input, Output};
 use session_pool::{
-    JobFault, Jobs, NoPause, Open, Passes, Pause, PoolFault, Served, Shared, Suspended, serve,
+    JobFault, Jobs, NoPause, Open, Passes, Pause, PausedSession, PoolFault, ServedSessions, Shared,
+    serve,
 };
 use std::alloc::Global;
 use std::sync::atomic::{AtomicU64, Ordering};
@@ -21,10 +22,10 @@ use std::sync::{Arc, Wait};
 use std::thread::Threads;
 
 /// A session of a test.
-pub type TestSession = Suspended<Input, Output>;
+pub type TestSession = PausedSession<Input, Output>;
 
 /// What a run of a test leaves.
-pub type TestServed = Served<Input, Output, KeptEnds>;
+pub type TestServed = ServedSessions<Input, Output, KeptEnds>;
 
 /// Is raised once it was looked at so often.
 #[derive(Drop)]
@@ -69,7 +70,13 @@ fn new_session(
         return Err(JobFault);
     };
     match streams_of(wires, number, line) {
-        Some((reader, writer)) => Ok(Suspended::new(wires.alloc, shared, passes, reader, writer)),
+        Some((reader, writer)) => Ok(PausedSession::new(
+            wires.alloc,
+            shared,
+            passes,
+            reader,
+            writer,
+        )),
         None => Err(JobFault),
     }
 }
@@ -92,7 +99,7 @@ impl<'a> Jobs for Sessions<'a> {
 
     ghost use Rattle.std.specs.Prelude.{◌≡◌, ⊤, MatchResult, MatchOption};
     ghost use Rattle.job_pool.specs.Lists.{Every};
-    ghost use Rattle.session_pool.specs.Suspending.{CanGoOn};
+    ghost use Rattle.session_pool.specs.PausedSessions.{CanGoOn};
 
     ghost gives = { λ first given last. (last.shared ≡ first.shared)
         × (Every (CanGoOn first.shared.now) first.resting.items
@@ -128,27 +135,36 @@ impl<'a> Jobs for Sessions<'a> {
     }
 }
 
-/// A run of these sessions over these gates on the workers of these seats.
+/// A run of these sessions over these gates on the workers of these setups.
 pub fn play<X: Threads + Wait + Sync, Q: Pause + Sync>(
     rt: &X,
     shared: &Shared,
     mut sessions: Sessions<'_>,
-    seats: Vec<TestSeat>,
+    serving_setups: Vec<TestServingSetup>,
     pause: &Q,
     seen: &mut Passes,
 ) -> Result<TestServed, PoolFault>
     requires of_gates { sessions.shared.now ≡ shared.now }
     requires rest { Every (CanGoOn shared.now) sessions.resting.items }
     requires seen { ArePassesOf shared.now seen.old }
-    requires count { (1 ≤ length seats.items) × (length seats.items ≤ 64) }
-    requires new { Every (IsNewSeat (λ sink. sink.ends.items)
-        (λ sink n. vec_len sink.ends + n ≤ vec_capacity sink.ends)) seats.items }
+    requires count { (1 ≤ length serving_setups.items) × (length serving_setups.items ≤ 64) }
+    requires new { Every (IsNewServingSetup (λ sink. sink.ends.items)
+        (λ sink n. vec_len sink.ends + n ≤ vec_capacity sink.ends)) serving_setups.items }
     ensures resting { IfOk result (λ served. Every (CanGoOn shared.now)
         (concat (map (λ one. one.items) served.resting.items))) }
     ensures seen { ArePassesOf shared.now seen.new }
 {
     let alloc = sessions.alloc;
-    serve(rt, alloc, shared, &mut sessions, seats, &Open, pause, seen)
+    serve(
+        rt,
+        alloc,
+        shared,
+        &mut sessions,
+        serving_setups,
+        &Open,
+        pause,
+        seen,
+    )
 }
 
 /// A run of new sessions over the lines of this one, which isn't paused.
@@ -157,13 +173,13 @@ pub fn play_new<X: Threads + Wait + Sync>(
     shared: &Shared,
     wires: Wires<'_>,
     run: &Run,
-    seats: Vec<TestSeat>,
+    serving_setups: Vec<TestServingSetup>,
     seen: &mut Passes,
 ) -> Result<TestServed, PoolFault>
     requires seen { ArePassesOf shared.now seen.old }
-    requires count { (1 ≤ length seats.items) × (length seats.items ≤ 64) }
-    requires new { Every (IsNewSeat (λ sink. sink.ends.items)
-        (λ sink n. vec_len sink.ends + n ≤ vec_capacity sink.ends)) seats.items }
+    requires count { (1 ≤ length serving_setups.items) × (length serving_setups.items ≤ 64) }
+    requires new { Every (IsNewServingSetup (λ sink. sink.ends.items)
+        (λ sink n. vec_len sink.ends + n ≤ vec_capacity sink.ends)) serving_setups.items }
     ensures { ArePassesOf shared.now seen.new }
 {
     let sessions = Sessions {
@@ -176,5 +192,5 @@ pub fn play_new<X: Threads + Wait + Sync>(
         number: 0,
         fails: run.fails,
     };
-    play(rt, shared, sessions, seats, &NoPause, seen)
+    play(rt, shared, sessions, serving_setups, &NoPause, seen)
 }

@@ -5,7 +5,7 @@ use Rattle.gate_node.specs.Gates.{Gates}
 use Rattle.gate_node.proofs.gated_vnode.get_and_reap.Goals as goal
 
 pub returns-clause-gate : goal.returns-clause-gate
-returns-clause-gate g c = c.reap-reaps.ensures.gate ∙ c.answer_get-reply.ensures.gate
+returns-clause-gate g c = c.reap_allowed-reaps.ensures.gate ∙ c.answer_get-reply.ensures.gate
 
 pub returns-clause-steps : goal.returns-clause-steps
 returns-clause-steps g c =
@@ -14,5 +14,5 @@ returns-clause-steps g c =
       gate = c.answer_get-reply.ensures.gate;
       more = c.answer_get-reply.ensures.more;
       answers = (c.answer_get-reply.ensures.shown, ap Some c.quantity.ensures);
-      reaps = subst (λ (gates : Gates). ReapsUpTo gates.budget c.reap-reaps.result c.answer_get-reply.new.pass c.reap-reaps.new.pass) c.shared.view_is c.reap-reaps.ensures.reaps;
+      reaps = subst (λ (gates : Gates). ReapsUpTo gates.budget c.reap_allowed-reaps.result c.answer_get-reply.new.pass c.reap_allowed-reaps.new.pass) c.shared.view_is c.reap_allowed-reaps.ensures.reaps;
     }

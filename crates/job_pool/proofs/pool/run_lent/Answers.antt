@@ -13,7 +13,7 @@ run_owned-jobs-requires-clause-jobs g c κs within = only_inside g.G.Jobs.gives 
 pub returns-clause-told : goal.returns-clause-told
 returns-clause-told g c =
     let tie = c.jobs-1.given.1 in
-    IfOk-weaker c.run_owned-jobs.result.1 _ _ (λ joined h. tells_back g.G.Jobs.gives (g.S.Service.serves c.args.service.now) g.K.Sink.told (map worker_of c.args.stations.items) joined.told joined.stopped _ c.run_owned-jobs.result.0 c.jobs-1.given.0 (λ name. sym (tie (sym name))) h) c.run_owned-jobs.ensures.told
+    IfOk-weaker c.run_owned-jobs.result.1 _ _ (λ joined h. tells_back g.G.Jobs.gives (g.S.Service.serves c.args.service.now) g.K.Sink.told (map worker_of c.args.worker_setups.items) joined.told joined.stopped _ c.run_owned-jobs.result.0 c.jobs-1.given.0 (λ name. sym (tie (sym name))) h) c.run_owned-jobs.ensures.told
 
 pub returns-clause-fault : goal.returns-clause-fault
 returns-clause-fault g c =

@@ -7,10 +7,10 @@ use Rattle.job_pool.specs.Queue.{leader}
 use Rattle.job_pool.specs.Workers.{IsNew, IsOn, state_before, worker_of}
 use Rattle.job_pool.proofs.start.start_all.Given as goal
 
-abbrev pub invariant-loop-station : goal.invariant-loop-station
-invariant-loop-station g l =
+abbrev pub invariant-loop-worker_setup : goal.invariant-loop-worker_setup
+invariant-loop-worker_setup g l =
     IsPassOf l.queue l.pass × (view l.pass ≡ leader)
     × Every (IsOn l.queue.table.shared.table_id l.service) l.children.items
-    × (map state_before l.children.items ++ map worker_of (into_iter_items l.station-iterator) ≡ map worker_of l.fn.stations.items)
-    × Every (IsNew g.K.Sink.told g.K.Sink.has_room) (into_iter_items l.station-iterator)
-    × (length (into_iter_items l.station-iterator) + length l.children.items ≤ vec_capacity l.children)
+    × (map state_before l.children.items ++ map worker_of (into_iter_items l.worker_setup-iterator) ≡ map worker_of l.fn.worker_setups.items)
+    × Every (IsNew g.K.Sink.told g.K.Sink.has_room) (into_iter_items l.worker_setup-iterator)
+    × (length (into_iter_items l.worker_setup-iterator) + length l.children.items ≤ vec_capacity l.children)

@@ -4,5 +4,5 @@ use Rattle.job_pool.proofs.worker.take_tasks.Given as goal
 
 abbrev pub invariant-loop : goal.invariant-loop
 invariant-loop g l =
-    IsPassOf l.queue l.pass × (l.desk.taken ≡ (view l.pass).taken)
-    × (l.desk.service ≡ l.initial.desk.service) × (l.desk.first ≡ l.initial.desk.first)
+    IsPassOf l.queue l.pass × (l.open_jobs.taken ≡ (view l.pass).taken)
+    × (l.open_jobs.service ≡ l.initial.open_jobs.service) × (l.open_jobs.first ≡ l.initial.open_jobs.first)

@@ -6,4 +6,4 @@ use Rattle.node_commands.proofs.controlled.serve_controlled.Goals as goal
 pub serve_periods-requires-clause-begins : goal.serve_periods-requires-clause-begins
 serve_periods-requires-clause-begins g c κs within =
     let settings = c.args.settings.now in
-    begins settings c.in-Some-new.paused (subst (IsNewRun settings.ring settings.run settings.sweep) (sym c.in-Some-new.ensures.shared) c.in-Some.ensures) c.in-Some-new.ensures.progress
+    begins settings c.in-Some-new.paused (subst (IsNewRun settings.ring settings.options.run settings.options.sweep) (sym c.in-Some-new.ensures.shared) c.in-Some.ensures) c.in-Some-new.ensures.progress

@@ -28,6 +28,6 @@ returns-in-Ok-serve-clause-ready g c =
 pub returns-in-Ok-serve-clause-limit : goal.returns-in-Ok-serve-clause-limit
 returns-in-Ok-serve-clause-limit g c =
     IfOk-weaker c.lay_down.result _ _ (λ later adds.
-    still_within c.args.shared.now c.args.progress c.new-sessions.result c.serve.new.sessions c.in-Ok-serve.served c.serve.new.seen c.args.settings.now.connections c.left_of.result
+    still_within c.args.shared.now c.args.progress c.new-sessions.result c.serve.new.sessions c.in-Ok-serve.served c.serve.new.seen c.args.settings.now.options.connections c.left_of.result
     c.accepted-accepted.result later.connections (c.new-sessions.ensures.source ∙ c.in-Ok-new.ensures) c.in-Ok-serve.ensures.served c.left_of.ensures c.requires.limit
     c.accepted-accepted.ensures.most adds.connections) c.lay_down.ensures

@@ -36,8 +36,8 @@ returns-in-Ok-serve-clause-most g c =
     let all = c.in-Ok-serve.ensures.served in
     let begun = all_begun first all.0 last none all.1 in
     let same = (gave_all first.source begun.0 last.source begun.2).0 in
-    let few = within last.source.limit c.args.settings.connections (same.limit ∙ ap (λ (s : ArrivalsView). s.limit) source) c.accepted-connections.result c.accepted-connections.ensures.most in
-    IfOk-weaker c.tally.result _ _ (λ outcome t. subst (λ (n : ℕ). IfSome c.args.settings.connections (λ limit. n ≤ limit)) (sym t.connections_are) few) c.tally.ensures
+    let few = within last.source.limit c.args.settings.options.connections (same.limit ∙ ap (λ (s : ArrivalsView). s.limit) source) c.accepted-connections.result c.accepted-connections.ensures.most in
+    IfOk-weaker c.tally.result _ _ (λ outcome t. subst (λ (n : ℕ). IfSome c.args.settings.options.connections (λ limit. n ≤ limit)) (sym t.connections_are) few) c.tally.ensures
 
 pub returns-in-Ok-serve-clause-all : goal.returns-in-Ok-serve-clause-all
 returns-in-Ok-serve-clause-all g c unstopped =

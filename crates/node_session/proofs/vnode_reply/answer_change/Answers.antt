@@ -9,7 +9,7 @@ pub returns-in-Err-clause-steps : goal.returns-in-Err-clause-steps
 returns-in-Err-clause-steps c =
     let old = c.args.vnode.now.state in
     let new = c.prepare.new.self.state in
-    subst (λ text. StepsByWrite old c.args.ask (Error text) new) (sym c.from.ensures)
+    subst (λ text. StepsByWrite old c.args.ask (Error text) new) (sym c.from-in-Err.ensures)
     (refused old new c.args.ask c.requires.write c.prepare.ensures.same c.in-Err.refusal c.in-Err.ensures.err)
 
 pub returns-in-Ok-Change-clause-opened : goal.returns-in-Ok-Change-clause-opened

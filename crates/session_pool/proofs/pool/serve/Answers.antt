@@ -1,5 +1,5 @@
 use Rattle.std.proofs.Common.{[], inl, refl}
-use Rattle.session_pool.proofs.Tellers.{seen_same}
+use Rattle.session_pool.proofs.EndReporters.{seen_same}
 use Rattle.session_pool.proofs.pool.serve.Goals as goal
 
 pub returns-in_default-clause-fault : goal.returns-in_default-clause-fault

@@ -6,7 +6,7 @@ ghost use Rattle.job_pool.specs.Workers.{IsNew};
 use crate::jobs::turns::{Doing, Row, Seen, Stepping, Work};
 use crate::jobs::wait_for;
 use ghost_state::GhostList;
-use job_pool::{Bell, Moved, NumberedEnd, Readiness, Sink, Station, Turn};
+use job_pool::{NumberedEnd, Readiness, Sink, StepOutcome, Turn, Wakeup, WorkerSetup};
 use std::alloc::{AllocError, Global};
 use std::snapshot::Snapshot;
 use std::sync::Wait;
@@ -79,21 +79,21 @@ impl Readiness<Stepping<'_>> for Watched<'_> {
         before.saturating_add(1) >= self.row.most_steps
     }
 
-    fn after(&mut self, slot: usize, moved: Moved) {
+    fn after(&mut self, slot: usize, moved: StepOutcome) {
         if slot.saturating_add(1) != self.next as usize {
             self.seen.is_late.store(1, Ordering::SeqCst);
         }
         let of_its_kind = match moved {
-            Moved::Going => &self.seen.going,
-            Moved::Waits => &self.seen.waiting,
-            Moved::Over => &self.seen.over,
+            StepOutcome::Going => &self.seen.going,
+            StepOutcome::Waits => &self.seen.waiting,
+            StepOutcome::Over => &self.seen.over,
         };
         of_its_kind.fetch_add(1, Ordering::SeqCst);
-        if moved == Moved::Waits {
+        if moved == StepOutcome::Waits {
             self.waits = 2;
             self.asked = 0;
         }
-        if moved == Moved::Over {
+        if moved == StepOutcome::Over {
             self.open &= !bit_of(slot);
         }
     }
@@ -118,7 +118,7 @@ pub struct Counted<'a> {
     rings: &'a AtomicU64,
 }
 
-impl Bell for Counted<'_> {
+impl Wakeup for Counted<'_> {
     fn load(&self) -> usize {
         self.load
     }
@@ -178,18 +178,18 @@ impl Sink<Stepping<'_>> for LetGo<'_> {
 }
 
 /// What a worker of the tests is started with.
-pub type TestStation<'a> = Station<(), LetGo<'a>, Watched<'a>, Counted<'a>>;
+pub type TestWorkerSetup<'a> = WorkerSetup<(), LetGo<'a>, Watched<'a>, Counted<'a>>;
 
-/// A station with a bell that tells this load.
-fn station_of<'a>(
+/// A setup with a wakeup that tells this load.
+fn worker_setup_of<'a>(
     row: &'a Row,
     seen: &'a Seen,
     load: usize,
     rings: &'a AtomicU64,
-) -> TestStation<'a>
+) -> TestWorkerSetup<'a>
     ensures { IsNew (λ sink. sink.told) (λ sink n. ⊤) result }
 {
-    Station {
+    WorkerSetup {
         worker: (),
         sink: LetGo {
             told: GhostList::new(),
@@ -204,7 +204,7 @@ fn station_of<'a>(
             waits: 0,
             asked: 0,
         },
-        bell: Counted {
+        wakeup: Counted {
             row,
             seen,
             load,
@@ -213,21 +213,21 @@ fn station_of<'a>(
     }
 }
 
-/// The row's stations.
-pub fn stations_of<'a>(
+/// The row's setups.
+pub fn worker_setups_of<'a>(
     alloc: Global,
     row: &'a Row,
     seen: &'a Seen,
-) -> Result<Vec<TestStation<'a>>, AllocError>
-    ensures { IfOk result (λ stations.
-        Every (IsNew (λ sink. sink.told) (λ sink n. ⊤)) stations.items) }
+) -> Result<Vec<TestWorkerSetup<'a>>, AllocError>
+    ensures { IfOk result (λ worker_setups.
+        Every (IsNew (λ sink. sink.told) (λ sink n. ⊤)) worker_setups.items) }
 {
-    let mut stations: Vec<TestStation<'a>> = Vec::new(alloc);
-    stations.push(station_of(row, seen, row.load, &seen.first_rings))?;
+    let mut worker_setups: Vec<TestWorkerSetup<'a>> = Vec::new(alloc);
+    worker_setups.push(worker_setup_of(row, seen, row.load, &seen.first_rings))?;
     let Some((second, third)) = row.others else {
-        return Ok(stations);
+        return Ok(worker_setups);
     };
-    stations.push(station_of(row, seen, second, &seen.second_rings))?;
-    stations.push(station_of(row, seen, third, &seen.third_rings))?;
-    Ok(stations)
+    worker_setups.push(worker_setup_of(row, seen, second, &seen.second_rings))?;
+    worker_setups.push(worker_setup_of(row, seen, third, &seen.third_rings))?;
+    Ok(worker_setups)
 }

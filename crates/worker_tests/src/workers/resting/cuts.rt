@@ -71,19 +71,19 @@ const CUTS: &[Cut] = &[
     Cut {
         shows: "a reply was written, and the end isn't read yet",
         most: usize::MAX,
-        looks: 8,
+        looks: 7,
         rests: Some((0, 5)),
     },
     Cut {
         shows: "a session that is over doesn't rest, though nobody has found it so",
         most: usize::MAX,
-        looks: 9,
+        looks: 8,
         rests: None,
     },
     Cut {
         shows: "a pause behind the last step",
         most: usize::MAX,
-        looks: 10,
+        looks: 9,
         rests: None,
     },
 ];

@@ -1,7 +1,7 @@
 //! Sessions that are paused after each of their steps, once or twice, and come to what they come to without a pause.
 ghost use Rattle.job_pool.specs.Lists.{Every};
 ghost use Rattle.gate_node.specs.Passes.{ArePassesOf};
-ghost use Rattle.session_pool.specs.Suspending.{CanGoOn};
+ghost use Rattle.session_pool.specs.PausedSessions.{CanGoOn};
 
 use crate::exchanges::{NOTHING_ACCEPTED, NOTHING_COUNTED, new_shared};
 use crate::workers::resting::{Manner, PLAIN, Stage, after_looks, new_stage, run_once};
@@ -111,27 +111,27 @@ const FIVE_OF_EIGHT: Run = Run {
     ..EIGHT
 };
 
-/// A read of all takes 3 steps, a request and its reply 3, the end of what there is to read 3, and then it is found that a session is over.
+/// A read of all takes 3 steps, a request and its reply 2, the end of what there is to read 3, and then it is found that a session is over.
 const ROWS: &[Row] = &[
     Row {
         shows: "a key lives twice in one session",
         manner: PLAIN,
         run: &ONE_KEY,
-        looks: 22,
+        looks: 17,
         refused: 0,
     },
     Row {
         shows: "requests are read and replies are written in pieces of five bytes",
         manner: Manner { most: 5, ..PLAIN },
         run: &ONE_KEY,
-        looks: 70,
+        looks: 65,
         refused: 0,
     },
     Row {
         shows: "one session is whole, one is cut, and of one the writer fails",
         manner: PLAIN,
         run: &THREE,
-        looks: 32,
+        looks: 28,
         refused: 0,
     },
     Row {
@@ -141,14 +141,14 @@ const ROWS: &[Row] = &[
             ..PLAIN
         },
         run: &THREE,
-        looks: 32,
+        looks: 28,
         refused: 0,
     },
     Row {
         shows: "a session more begins in each run, behind those that rest",
         manner: Manner { begins: 1, ..PLAIN },
         run: &THREE,
-        looks: 16,
+        looks: 13,
         refused: 0,
     },
     Row {
@@ -158,7 +158,7 @@ const ROWS: &[Row] = &[
             ..PLAIN
         },
         run: &EIGHT,
-        looks: 128,
+        looks: 104,
         refused: 0,
     },
     Row {
@@ -168,7 +168,7 @@ const ROWS: &[Row] = &[
             ..PLAIN
         },
         run: &FIVE_OF_EIGHT,
-        looks: 80,
+        looks: 65,
         refused: 3,
     },
 ];
@@ -181,7 +181,7 @@ const LATER_REFUSED: Row = Row {
         ..PLAIN
     },
     run: &FIVE_OF_EIGHT,
-    looks: 128,
+    looks: 104,
     refused: 3,
 };
 
@@ -306,8 +306,8 @@ fn sessions_rest_after_each_step(rt: HostRuntime) {
 #[test]
 fn sessions_rest_twice(rt: HostRuntime) {
     let row = &ROWS[0];
-    for first in 0..23u64 {
-        for second in 0..23u64 {
+    for first in 0..18u64 {
+        for second in 0..18u64 {
             let is_so = is_paused(&rt, rt.alloc(), row, first, Some(second));
             assert!(rt; is_so, "{}: {first}, {second}", row.shows);
         }

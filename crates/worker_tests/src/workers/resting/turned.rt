@@ -3,7 +3,7 @@
 ghost use Rattle.std.specs.Prelude.{◌≡◌, IfSome};
 ghost use Rattle.job_pool.specs.Lists.{Every};
 ghost use Rattle.gate_node.specs.Passes.{ArePassesOf};
-ghost use Rattle.session_pool.specs.Suspending.{CanGoOn};
+ghost use Rattle.session_pool.specs.PausedSessions.{CanGoOn};
 
 use crate::diversions::divert;
 use crate::exchanges::{GET, NOTHING_ACCEPTED, NOTHING_COUNTED, ONE_GET, new_shared};
@@ -141,9 +141,9 @@ const TURNS: &[Turned] = &[
     },
 ];
 
-/// How many requests are answered behind so many steps: three for the read, and three for a request and its reply, of which the first answers.
+/// How many requests are answered behind so many steps: three for the read, and two for a request and its reply, of which the first answers.
 fn answered_after(steps: u64) -> u64 {
-    (steps.saturating_sub(1) / 3).min(3)
+    (steps.saturating_sub(2) / 2).min(3)
 }
 
 /// What comes of the session where so many requests were answered before the diversion, and so many before the return.
@@ -350,8 +350,8 @@ fn turns<X: Threads + Wait + Sync>(rt: &X, alloc: Global, first: u64, second: u6
 
 #[test]
 fn sessions_rest_while_partitions_turn(rt: HostRuntime) {
-    for first in 0..17u64 {
-        for second in 0..17u64 {
+    for first in 0..14u64 {
+        for second in 0..14u64 {
             assert!(rt; turns(&rt, rt.alloc(), first, second), "{first}, {second}");
         }
     }

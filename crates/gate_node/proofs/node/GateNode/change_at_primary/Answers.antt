@@ -1,6 +1,6 @@
 use Rattle.std.proofs.Common.{◌≡◌, ◌<◌, ◌^◌, ◌∙◌, ap, sym, subst, length}
 use Rattle.handoff.specs.Partitions.{AreOfNewRun}
-use Rattle.gate_node.specs.Asked.{Changes}
+use Rattle.gate_node.specs.Asked.{AnswersAndReaps, Changes}
 use Rattle.gate_node.specs.Gates.{Gates}
 use Rattle.gate_node.specs.GateStep.{NodeOverGates}
 use Rattle.gate_node.specs.Passes.{places_of}
@@ -22,7 +22,9 @@ returns g c =
     let all = subst (λ (s : Gates). AreOfNewRun s.run s.gates) c.shared.view_is c.gates-gates.ensures.new_run in
     let asked = subst (λ (n : NodeOverGates). c.args.index < 2 ^ n.shared.index_bits) (sym c.self.view_is) c.requires in
     let within = within_passes primaries shared.gates (2 ^ shared.index_bits) c.args.index c.self.invariant.primaries size asked in
+    let is = c.call-call.ensures.shared ∙ ap (λ (n : NodeOverGates). n.shared) (sym c.self.view_is) in
+    let steps = subst (λ (s : Gates). AnswersAndReaps s.budget c.change_and_reap-answered.result.reaps (λ p q. Changes c.args.change p q c.change_and_reap-answered.result.reply c.change_and_reap-answered.result.quantity) c.index_mut-pass.result.now c.change_and_reap-answered.new.pass) is c.change_and_reap-answered.ensures.steps in
     rw (← c.self.view_is)
     (at_index (record { shared = shared; passes = record { primaries = primaries; fallbacks = places_of c.self.inside.size c.self.inside.fallbacks.items }; count = g.C.CountReplies.count c.self.inside.counter }) c.args.index c.index_mut-pass.result.now c.change_and_reap-answered.new.pass
     (λ p q quantity. Changes c.args.change p q c.change_and_reap-answered.result.reply quantity) c.change_and_reap-answered.result.quantity c.change_and_reap-answered.result.reaps (g.C.CountReplies.count c.count_answer.new.self) all c.self.invariant.primaries within c.index_mut-pass.ensures.value
-    c.change_and_reap-answered.ensures.gate c.change_and_reap-answered.ensures.steps c.count_answer.ensures)
+    c.change_and_reap-answered.ensures.gate steps c.count_answer.ensures)

@@ -1,5 +1,5 @@
-use Rattle.node_session.specs.Courses.{Fits}
+use Rattle.node_session.specs.Stages.{Fits}
 use Rattle.node_tests.proofs.tests.turns.outcome_of.Given as goal
 
 abbrev pub invariant-loop : goal.invariant-loop
-invariant-loop l = Fits l.course.stage l.course.talk
+invariant-loop l = Fits l.session.stage l.session

@@ -1,7 +1,7 @@
 use Rattle.std.proofs.Common.{◌≡◌, inl, subst}
 use Rattle.session_pool.specs.declared.left.Left.{Left}
 use Rattle.session_pool.specs.declared.left.Left.TheVariants as lefts
-use Rattle.session_pool.specs.Serving.{CountsInStay}
+use Rattle.session_pool.specs.Serving.{CountsInOpenSession}
 use Rattle.worker_pool.specs.Serving.{session_of}
 use Rattle.worker_pool.proofs.Closing.{counts_in_session}
 use Rattle.worker_pool.proofs.server.ServerService.close.Goals as goal
@@ -13,11 +13,11 @@ pub returns : goal.returns
 returns g c = λ job stands.
     let remaining = g.I.Read.remaining in
     let contents = g.O.Write.contents in
-    let shared = c.args.self.now.host in
+    let shared = c.args.self.now.session_service in
     let first = c.args.worker.now in
     let last = c.leave-left.new.worker in
     let full = c.leave-left.result.book_full in
     let session = session_of remaining contents shared job in
     let is : c.leave-left.result.left ≡ lefts.Ended c.in-Ended.ended = c.in-Ended.is in
     counts_in_session remaining contents shared first last job full c.in-Ended.ended c.ended.new.self c.ended-2.new.self c.ended.ensures c.ended-2.ensures
-    (subst (λ (left : Left g.row.I.Denot g.row.O.Denot). CountsInStay ⊥ remaining contents shared first session last (record { left = left; book_full = full })) is (c.leave-left.ensures.counts session stands))
+    (subst (λ (left : Left g.row.I.Denot g.row.O.Denot). CountsInOpenSession ⊥ remaining contents shared first session last (record { left = left; book_full = full })) is (c.leave-left.ensures.counts session stands))

@@ -3,7 +3,7 @@ use Rattle.std.proofs.lemmas.Result.{IfOk-weaker}
 use Rattle.std.specs.Prelude.{⊤, Option, Result, MatchResult, MatchOption}
 use Rattle.job_pool.specs.Lists.{Every}
 use Rattle.job_pool.specs.declared.jobs.JobFault.{JobFault}
-use Rattle.session_pool.specs.Suspending.{SuspendedView, CanGoOn}
+use Rattle.session_pool.specs.PausedSessions.{PausedSessionView, CanGoOn}
 use Rattle.session_pool.proofs.Sources.{gives_only}
 use Rattle.worker_tests.specs.declared.workers.sessions.Sessions.{Sessions}
 use Rattle.worker_tests.specs.declared.workers.streams.Input.{Input}
@@ -11,7 +11,7 @@ use Rattle.worker_tests.specs.declared.workers.streams.Output.{Output}
 use Rattle.worker_tests.proofs.Sessions.{rest_goes_on}
 use Rattle.worker_tests.proofs.workers.sessions.play.Goals as goal
 
-abbrev Gives : Sessions → Result (Option (SuspendedView Input Output)) JobFault → Sessions → Type 0
+abbrev Gives : Sessions → Result (Option (PausedSessionView Input Output)) JobFault → Sessions → Type 0
 Gives first given last = (last.shared ≡ first.shared) × (Every (CanGoOn first.shared.now) first.resting.items → Every (CanGoOn first.shared.now) last.resting.items
     × MatchResult given (λ next. MatchOption next ⊤ (CanGoOn first.shared.now)) (λ fault. ⊤))
 

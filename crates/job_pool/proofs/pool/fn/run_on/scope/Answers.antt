@@ -8,15 +8,15 @@ use Rattle.job_pool.proofs.pool.fn.run_on.scope.Goals as goal
 
 pub dispatch-joined-requires-clause-told : goal.dispatch-joined-requires-clause-told
 dispatch-joined-requires-clause-told g c κs within =
-    let many = same_many state_before worker_of c.start_all-started.new.children.items c.captures.stations.items c.in_default.ensures.workers in
+    let many = same_many state_before worker_of c.start_all-started.new.children.items c.captures.worker_setups.items c.in_default.ensures.workers in
     (c.requires.told.0, subst (HasPlaces c.captures.rooms-told) many c.requires.told.1)
 
 pub returns : goal.returns
 returns g c =
     let done = c.dispatch-joined.result in
-    let Told = λ (service : g.row.S.Denot) (firsts : List g.row.S-Worker.Denot). IfOk done (λ joined. TellsGiven (g.S.Service.serves service) g.K.Sink.told g.G.Jobs.gives c.captures.jobs firsts joined.told joined.stopped c.dispatch-joined.new.jobs) in
+    let WorkersLeft = λ (service : g.row.S.Denot) (firsts : List g.row.S-Worker.Denot). IfOk done (λ joined. TellsGiven (g.S.Service.serves service) g.K.Sink.told g.G.Jobs.gives c.captures.jobs firsts joined.told joined.stopped c.dispatch-joined.new.jobs) in
     record {
-      told = subst (Told c.captures.service.now) c.in_default.ensures.workers (subst (λ s. Told s (map state_before c.start_all-started.new.children.items)) c.of-service.ensures c.dispatch-joined.ensures.told);
+      told = subst (WorkersLeft c.captures.service.now) c.in_default.ensures.workers (subst (λ s. WorkersLeft s (map state_before c.start_all-started.new.children.items)) c.of-service.ensures c.dispatch-joined.ensures.told);
       fault = c.dispatch-joined.ensures.fault;
       own = c.dispatch-joined.ensures.own;
     }

@@ -1,7 +1,0 @@
-use Rattle.node_session.proofs.Coming.{came_kept}
-use Rattle.node_session.proofs.course.Course.step.Goals as goal
-
-pub returns-in-None-clause-goes : goal.returns-in-None-clause-goes
-returns-in-None-clause-goes g c =
-    let w = c.in-None.ensures.waits in
-    λ first u h p. came_kept g.N.Node.step first u _ _ h _ _ w.2 w.3 c.args.node.now c.go.new.node c.args.self.now.stage c.args.self.now.talk c.go.new.self w.0 w.1 w.4 p
