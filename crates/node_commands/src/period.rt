@@ -104,7 +104,8 @@ where
     W: Write,
     requires workers { (1 ≤ length waits.workers.items) × (length waits.workers.items ≤ 64) }
     requires ready { IsReady shared.now progress }
-    requires limit { IfSome settings.now.options.connections (λ limit. progress.connections ≤ limit) }
+    requires limit { IfSome settings.now.options.connections
+        (λ limit. progress.connections ≤ limit) }
     ensures served { IfOk result (HasServed shared.now progress) }
     ensures ready { IfOk result (IsReady shared.now) }
     ensures limit { IfOk result (λ later.
@@ -184,7 +185,8 @@ where
     W: Write,
     requires workers { (1 ≤ length waits.workers.items) × (length waits.workers.items ≤ 64) }
     requires ready { IsReady shared.now progress }
-    requires limit { IfSome settings.now.options.connections (λ limit. progress.connections ≤ limit) }
+    requires limit { IfSome settings.now.options.connections
+        (λ limit. progress.connections ≤ limit) }
     requires tracks { HaveTracks (handoff_of shared.now) tracks }
     ensures served { IfOk result (λ came. HasServed shared.now progress came.0) }
     ensures ready { IfOk result (λ came. IsReady shared.now came.0) }
@@ -206,7 +208,8 @@ where
             ensures served { IfOk result (λ came. HasServed shared.entry.now progress came.0) }
             ensures ready { IfOk result (λ came. IsReady shared.entry.now came.0) }
             ensures limit { IfOk result (λ came.
-                IfSome settings.entry.now.options.connections (λ limit. came.0.connections ≤ limit)) }
+                IfSome settings.entry.now.options.connections
+                (λ limit. came.0.connections ≤ limit)) }
             ensures tracks { IfOk result (λ came.
                 HaveTracks (handoff_of shared.entry.now) came.1.tracks) }
         {

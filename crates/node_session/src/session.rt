@@ -120,6 +120,7 @@ impl Session {
             → Came N.step first now unread unread' held held' self.new.stage self.new }
         ensures over { IsOver self.new.stage }
         ensures less { weight self.new.stage self.new < weight self.old.stage self.old }
+        ensures rest { self.new ≡ record self.old { stage = self.new.stage } }
         ensures most { self.new.most ≡ self.old.most }
         ensures fits { Fits self.new.stage self.new }
     {

@@ -86,7 +86,8 @@ where
         (λ end_reporter n. HasRoom K.has_room end_reporter n)) worker_setups.items) }
     ensures zeros { IfOk result (λ worker_setups.
         Every (λ worker_setup. worker_setup.worker ≡ zeros) worker_setups.items) }
-    ensures count { IfOk result (λ worker_setups. length worker_setups.items ≡ length serving_setups.items) }
+    ensures count { IfOk result (λ worker_setups.
+        length worker_setups.items ≡ length serving_setups.items) }
     ensures fault { IfErr result (λ fault. fault ≡ NoMemory) }
 {
     let mut worker_setups = Vec::new(alloc);

@@ -215,8 +215,10 @@ pub fn new_serving_setups<'a: 's, 's, X: Clock + Log + Wait>(
     workers: Vec<WorkerWaits>,
     waiting: Waiting,
 ) -> io::Result<Vec<SocketServingSetup<'a, 's, X>>>
-    ensures count { IfOk result (λ serving_setups. length serving_setups.items ≡ length workers.items) }
-    ensures new { IfOk result (λ serving_setups. Every (λ serving_setup. serving_setup.sink ≡ []) serving_setups.items) }
+    ensures count { IfOk result (λ serving_setups.
+        length serving_setups.items ≡ length workers.items) }
+    ensures new { IfOk result (λ serving_setups.
+        Every (λ serving_setup. serving_setup.sink ≡ []) serving_setups.items) }
 {
     let replies = Arc::new(alloc, AtomicUsize::new(0))?;
     let mut serving_setups = Vec::new(alloc);
