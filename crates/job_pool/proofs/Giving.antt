@@ -3,12 +3,10 @@ use Rattle.std.proofs.Common.{◌≡◌, List, [], ◌∷◌, ◌++◌, refl, su
 use Rattle.std.specs.Prelude.{Option, Some, Result, Ok, Err, IfOk, IfErr}
 use Rattle.job_pool.specs.declared.fault.RunFault.{RunFault}
 use Rattle.job_pool.specs.declared.fault.RunFault.TheVariants.{NoMemory, NoThread, JobsFailed}
-use Rattle.job_pool.specs.Giving.{Gave, GaveAll, GaveFailed, AllServedOnce, Leaves, ServedThenFailed, StoppedAfter}
-use Rattle.job_pool.specs.Ends.{AreInOrder, told_by}
+use Rattle.job_pool.specs.Giving.{Gave, GaveAll, GaveFailed, Leaves, StoppedAfter}
 use Rattle.job_pool.specs.Telling.{ToldOnce, TellsGiven}
 use Rattle.job_pool.specs.declared.workers_left.WorkersLeft.{WorkersLeft}
 use Rattle.job_pool.specs.declared.worker.NumberedEnd.{NumberedEnd}
-use Rattle.job_pool.proofs.Joining.{all_ordered}
 use Rattle.job_pool.specs.Workers.{IsOfRun}
 
 module _ {G J F : Type 0} (Gives : G → Result (Option J) F → G → Type 0) where
@@ -43,16 +41,3 @@ module _ {G J F : Type 0} (Gives : G → Result (Option J) F → G → Type 0) w
     pub told_failing : (fault : RunFault) → fault ≡ JobsFailed → Telling (Err fault)
         → (jobs : List J) × GaveFailed Gives first jobs last × (left : WorkersLeft W K) × ToldOnce Serves told jobs firsts left.workers.items left.sinks.items left.given left.refused
     told_failing fault is h = (h.0, subst (λ f. StoppedAfter Gives f first h.0 last) is h.1, done, h.2)
-
-    module _ (ends : List E) (order : AreInOrder done.given (told_by told done.sinks.items) ends) where
-      pub told_served : (u : Unit {0}) → Telling (Ok u) → AllServedOnce Gives Serves first firsts ends done.workers.items last
-      told_served u h = (h.0, h.1, all_ordered Serves told h.0 firsts done.workers.items done.sinks.items done.given done.refused ends h.2 order)
-
-      pub told_failed : (fault : RunFault) → fault ≡ JobsFailed → Telling (Err fault) → ServedThenFailed Gives Serves first firsts last
-      told_failed fault is h = (
-        h.0,
-        subst (λ f. StoppedAfter Gives f first h.0 last) is h.1,
-        ends,
-        done.workers.items,
-        all_ordered Serves told h.0 firsts done.workers.items done.sinks.items done.given done.refused ends h.2 order,
-      )

@@ -1,7 +1,6 @@
 -- What a source of jobs gives over many calls.
 use Rattle.std.specs.Prelude.{◌≡◌, ◌⊎◌, List, [], ◌∷◌, Option, Some, None, Result, Ok, Err}
 use Rattle.job_pool.specs.Lists.{Pairwise}
-use Rattle.job_pool.specs.Turns.{ServedOnce}
 use Rattle.job_pool.specs.declared.fault.RunFault.{RunFault}
 use Rattle.job_pool.specs.declared.fault.RunFault.TheVariants.{NoMemory, NoThread, JobsFailed}
 
@@ -23,10 +22,6 @@ module _ {G J F : Type 0} (Gives : G → Result (Option J) F → G → Type 0) w
   abbrev pub AllServed : {E : Type 0} → (J → E → Type 0) → G → List E → G → Type 0
   AllServed Serves first ends last = (jobs : List J) × GaveAll first jobs last × Pairwise Serves jobs ends
 
-  -- all jobs until there was none, each served in one turn of a worker
-  abbrev pub AllServedOnce : {W E : Type 0} → (W → J → W → E → Type 0) → G → List W → List E → List W → G → Type 0
-  AllServedOnce Serves first firsts ends lasts last = (jobs : List J) × GaveAll first jobs last × ServedOnce Serves jobs firsts ends lasts
-
   -- some jobs, or some and then a fault, or all until there was none
   abbrev pub GaveSome : G → G → Type 0
   GaveSome first last = (jobs : List J) × ((Gave first jobs last ⊎ GaveFailed first jobs last) ⊎ GaveAll first jobs last)
@@ -34,11 +29,6 @@ module _ {G J F : Type 0} (Gives : G → Result (Option J) F → G → Type 0) w
   -- some jobs, and then a fault
   abbrev pub GaveThenFailed : G → G → Type 0
   GaveThenFailed first last = (jobs : List J) × GaveFailed first jobs last
-
-  -- some jobs, each served in one turn of a worker, and then a fault
-  abbrev pub ServedThenFailed : {W E : Type 0} → (W → J → W → E → Type 0) → G → List W → G → Type 0
-  ServedThenFailed {W} {E} Serves first firsts last =
-      (jobs : List J) × GaveFailed first jobs last × (ends : List E) × (lasts : List W) × ServedOnce Serves jobs firsts ends lasts
 
   -- whatever it gave, the next job that it may give is such
   abbrev pub GivesOnly : (J → Type 0) → G → Type 0

@@ -1,4 +1,4 @@
--- What a run comes to that keeps no ends: each was told a sink of the worker that served the job.
+-- What a run comes to: each end was told the sink of the worker that served the job.
 use Rattle.std.specs.Prelude.{◌≡◌, ◌+◌, ℕ, List, [], Option, Result, Ok, Err, length, map, vec_capacity, ◌≤◌}
 use Rattle.job_pool.specs.Lists.{Every, Pairwise}
 use Rattle.job_pool.specs.Turns.{WorkerTurns, IsChain, firsts_of, lasts_of}

@@ -3,27 +3,23 @@
 //!
 //! What it means: a [`Service`] serves a job in steps; when the job is over, `close` brings it to
 //! its end and takes the worker from one state to its next. That is a turn (`specs/Turns`): a
-//! worker in one state, a job, the next state and the job's end. [`run`] takes all jobs of a
-//! [`Jobs`] source and gives one end for each, in the order in which the source gave the jobs
-//! (`specs/Giving`: `AllServedOnce`). There is one turn for each job, and these turns are those of
-//! the workers: the turns of one worker lead from the state that was handed in to the one that
-//! comes back. So no end is made up, none is another job's, no job is served twice, and what the
-//! workers' states gained is what the turns gained, each counted once. Nothing is said of which
-//! worker serves which job, nor when.
+//! worker in one state, a job, the next state and the job's end. [`run_at`] takes all jobs of a
+//! [`Jobs`] source (`specs/Telling`: `TellsEachOnce`). The turns of one worker lead from the state
+//! that was handed in to the one that comes back. What its [`Sink`] was told are the ends of these
+//! turns, and each job was told once or refused for want of memory, and counted. So no end is made
+//! up, none is another job's, no job is served twice, and what the workers' states gained is what
+//! the turns gained, each counted once. Nothing is said of which worker serves which job, nor when.
 //!
-//! [`run_at`] keeps no end, and so may go on for months (`specs/Telling`: `TellsEachOnce`): what a
-//! worker's [`Sink`] was told are the ends of that worker's turns, and each job was told once or
-//! refused for want of memory, and counted. What a sink is told comes with its proof: `tell`
-//! requires that this end is one of a turn with this very job. So that holds of each end while the
-//! run goes on, whether or not it ever returns.
+//! What a sink is told comes with its proof: `tell` requires that this end is one of a turn with
+//! this very job. So that holds of each end while the run goes on, whether or not it ever returns.
+//! Where the sinks keep all ends ([`collecting_setups`]), [`ends_in_order`] gives one for each job,
+//! in the order in which the source gave the jobs (`specs/Turns`: `ServedOnce`).
 //!
 //! What it costs: a job goes through one queue of [`MAX_WAITING`] places, is moved and not copied,
-//! and takes no lock. In `run` all workers are woken after each push, and a worker has one job open
-//! ([`Rounds`]); in `run_at` a job is meant for a worker whose [`Wakeup`] tells the least load, and
-//! that one alone is woken; [`run_with`] is `run` over any readiness. Where the queue is full the
-//! leading thread sleeps, and a worker that took a task wakes it. A run takes memory for the queue,
-//! a thread for each worker and a parker for the leading thread; `run` also for a parker for each
-//! worker, and a place for each end, twice. A worker takes memory for each job that it has open.
+//! and takes no lock. After each push all workers are woken, or that one alone whose [`Wakeup`]
+//! tells the least load ([`Wakes`]). Where the queue is full the leading thread sleeps, and a
+//! worker that took a task wakes it. A run takes memory for the queue, a thread for each worker and
+//! a parker for the leading thread. A worker takes memory for each job that it has open.
 //!
 //! How it is built: the queue is under a rule (`specs/Queue`: `AllGiven`): what lies in it, and
 //! what each worker took, is a job that was given, under its number, and each job that was given
@@ -31,10 +27,10 @@
 //! worker has its open jobs in slots (`specs/OpenJobs`): each job that it took is open, or its
 //! end was told, or it was refused, once. When it stops none is open. The leading thread joins it,
 //! learns by the rule that what it took are jobs that were given, and compares the counts: so none
-//! is lost. `run` is such a run whose sinks keep all ends; it lays each into the place of its
-//! number. What a worker waits with ([`Readiness`]) decides which slots have their turn, and when
-//! that ends, and no clause speaks of that. A source comes by `&mut`, and no clause follows a
-//! `&mut` through a scope of threads, so it goes through as a value that comes back (`Lent`).
+//! is lost. `ends_in_order` lays each end that was kept into the place of its number. What a worker
+//! waits with ([`Readiness`]) decides which slots have their turn, and when that ends, and no
+//! clause speaks of that. A source comes by `&mut`, and no clause follows a `&mut` through a scope
+//! of threads, so it goes through as a value that comes back (`Lent`).
 //!
 //! ```text
 //! source gives 5, 6, 7; the service doubles; two workers, which count what they served, from 0
@@ -43,14 +39,14 @@
 //! worker b takes               (1, 6)        stop           its sink is told (1, 12), count 1
 //! run_at returns        workers 2, 1; their sinks; given 3, refused 0
 //! places after a, b     10 _ 14       10 12 14
-//! run returns           ends 10, 12, 14; workers 2, 1
+//! ends_in_order gives   10, 12, 14
 //! ```
 //!
 //! # Proved
 //!
 //! What the head says under *What it means* holds too of the jobs that a source gave before it
-//! failed. If a thread is refused, no job was taken. By `run`, `run_with`, `run_at`, and the
-//! clauses of `Service`, `Sink` and `Jobs`.
+//! failed. If a thread is refused, no job was taken. By `run_at`, `ends_in_order`, and the clauses
+//! of `Service`, `Sink` and `Jobs`.
 //!
 //! # Tested
 //!
@@ -64,7 +60,7 @@
 //! - That `NoMemory` comes only if memory was refused.
 #![tactic(auto)]
 
-mod collect;
+mod collecting;
 mod fault;
 mod jobs;
 mod join;
@@ -84,18 +80,18 @@ mod start;
 mod stream_readiness;
 mod submit;
 mod worker;
-mod worker_setups;
 mod workers_left;
 
-pub use collect::{Finished, run, run_with};
+pub use collecting::collecting_setups;
 pub use fault::RunFault;
 pub use jobs::{JobFault, Jobs};
 pub use open_jobs::MAX_STEPS_PER_TURN;
+pub use order::{Finished, ends_in_order};
 pub use pool::{MAX_WAITING, run_at};
 pub use readiness::{Post, Readiness, Turn, Wakeup, WorkerSetup};
 pub use rounds::{Rounds, Wake};
 pub use service::{Service, StepOutcome};
-pub use sink::Sink;
+pub use sink::{Collected, Sink};
 pub use sleepers::Wakes;
 pub use stream_readiness::StreamReadiness;
 pub use worker::NumberedEnd;

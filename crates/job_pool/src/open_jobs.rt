@@ -15,7 +15,8 @@ use std::alloc::Global;
 use std::marker::Model;
 use std::snapshot::Snapshot;
 
-/// How many steps a job takes at most before others have their turn: enough for some 300 short requests, so that a job mostly stops where it
+/// How many steps a job takes at most before others have their turn: enough for some 500 short requests
+/// that came together, so that a job mostly stops where it
 /// waits for more, and holds little then. A turn whose steps cost more ends before, once its readiness says so.
 pub const MAX_STEPS_PER_TURN: u32 = 1024;
 

@@ -1,4 +1,4 @@
-//! A run of the pool, over any sinks.
+//! A run of the pool.
 ghost use Rattle.std.specs.Prelude.{◌≡◌, ◌<◌, [], length, map, IfOk, IfErr};
 ghost use Rattle.crossbeam_queue.specs.Passes.{view, IsPassOf};
 ghost use Rattle.job_pool.specs.Giving.{GivesOnly, Leaves};
@@ -35,9 +35,9 @@ pub const MAX_WAITING: usize = 64;
 
 /// What the workers left, and how the source stopped.
 #[derive(Drop)]
-pub(crate) struct Joined<W, K> {
-    pub(crate) told: WorkersLeft<W, K>,
-    pub(crate) stopped: Result<(), RunFault>,
+struct Joined<W, K> {
+    told: WorkersLeft<W, K>,
+    stopped: Result<(), RunFault>,
 }
 
 /// Gives the jobs to the workers that were started, and a stop mark to each; then joins them. What they took has to be all that was given: so
@@ -219,7 +219,7 @@ where
 }
 
 /// A run over a source that is lent.
-pub(crate) fn run_lent<S, G, K, D, B, T>(
+fn run_lent<S, G, K, D, B, T>(
     rt: &T,
     alloc: Global,
     service: &S,
@@ -262,8 +262,8 @@ where
 /// its sink so. Each job is one of these, once, and `given` and `refused` count them. There has to be a setup; its sink was told nothing before,
 /// and has room for no end at least; and each job that the source may give is one that the service takes.
 ///
-/// A worker takes the jobs for which its wakeup was rung; each is meant for a worker whose wakeup tells the least load. It has many
-/// jobs open, as its readiness lets it.
+/// A worker takes the jobs for which its wakeup was rung; each is meant for the workers that `wakes` says. It has as many jobs open at a time
+/// as its readiness lets it.
 ///
 /// Where the run ends by a fault, the workers that were started have been joined, and their states and sinks are let go:
 ///
@@ -278,6 +278,7 @@ pub fn run_at<S, G, T, K, D, B>(
     service: &S,
     jobs: &mut G,
     worker_setups: Vec<WorkerSetup<S::Worker, K, D, B>>,
+    wakes: Wakes,
 ) -> Result<WorkersLeft<S::Worker, K>, RunFault>
 where
     S: Service,
@@ -295,9 +296,10 @@ where
 
     // Where the source failed, each job that it gave was told or refused once.
     ensures failed { IfErr result (λ fault. fault ≡ JobsFailed
-        → ToldThenFailed G.gives (S.serves service.now) K.told jobs.old worker_setups.items jobs.new) }
+        → ToldThenFailed G.gives (S.serves service.now) K.told
+        jobs.old worker_setups.items jobs.new) }
 {
-    match run_lent(rt, alloc, service, jobs, worker_setups, Wakes::LeastLoad) {
+    match run_lent(rt, alloc, service, jobs, worker_setups, wakes) {
         Ok(joined) => {
             let Joined { told, stopped } = joined;
             match stopped {

@@ -1,14 +1,13 @@
-//! What a worker waits with that has one job open at a time.
-ghost use Rattle.std.specs.Prelude.{◌≡◌, length, IfOk};
-
-use crate::readiness::{Post, Readiness, Turn, Wakeup};
-use crate::service::{Service, StepOutcome};
+//! What a worker waits with that has one session open at a time.
+use crate::readiness::{Turn, Wakeup};
+use crate::service::StepOutcome;
+use crate::stream_readiness::StreamReadiness;
 use crossbeam_utils::sync::{Parker, Unparker};
 use std::alloc::{AllocError, Global};
 use std::sync::Wait;
 
-/// All slots, one after another, where nothing is waited for but a task: a stream waits by itself, and so one job is open at a time, or who waits in
-/// it would keep the others.
+/// All slots, one after another, where nothing is waited for but a task: a stream waits by itself, and so one session is open at a time, or who
+/// waits in it would keep the others.
 #[derive(Drop)]
 pub struct Rounds {
     parker: Parker,
@@ -34,14 +33,23 @@ impl Rounds {
         };
         Ok((rounds, Wake { unparker }))
     }
+}
 
-    /// A job was opened in this slot.
-    pub fn add(&mut self, slot: usize) {
+/// One session at a time, over streams that wait by themselves.
+impl<R, W> StreamReadiness<R, W> for Rounds {
+    fn takes(&mut self, is_idle: bool) -> bool {
+        is_idle
+    }
+
+    fn may_take_memory(&self) -> bool {
+        true
+    }
+
+    fn begin(&mut self, slot: usize, _reader: &R, _writer: &W) {
         self.slots = self.slots.max(slot.saturating_add(1));
     }
 
-    /// The next slot of the round, which may not wait. None where all had their turn.
-    pub fn next_turn(&mut self) -> Option<Turn> {
+    fn next(&mut self) -> Option<Turn> {
         if self.next < self.slots {
             let slot = self.next;
             self.next = slot.saturating_add(1);
@@ -55,37 +63,6 @@ impl Rounds {
         }
     }
 
-    /// Sleeps until the worker was woken since the last sleep ended.
-    pub fn sleep<T: Wait>(&self, rt: &T) {
-        self.parker.park(rt);
-    }
-}
-
-/// So many posts, each of a worker that has one job open at a time.
-pub(crate) fn new_rounds(alloc: Global, count: usize) -> Result<Vec<Post<Rounds, Wake>>, AllocError>
-    ensures { IfOk result (λ posts. length posts.items ≡ count) }
-{
-    let mut posts = Vec::new(alloc);
-    for _ in 0..count {
-        let (readiness, wakeup) = Rounds::new(alloc)?;
-        posts.push(Post { readiness, wakeup })?;
-    }
-    Ok(posts)
-}
-
-impl<S: Service> Readiness<S> for Rounds {
-    fn takes(&mut self, is_idle: bool) -> bool {
-        is_idle
-    }
-
-    fn begin(&mut self, slot: usize, _opened: &S::Open) {
-        self.add(slot);
-    }
-
-    fn next(&mut self) -> Option<Turn> {
-        self.next_turn()
-    }
-
     fn ends_turn(&mut self, _slot: usize, _before: u32) -> bool {
         false
     }
@@ -94,7 +71,7 @@ impl<S: Service> Readiness<S> for Rounds {
 
     fn wait<T: Wait>(&mut self, rt: &T, is_idle: bool) {
         if is_idle {
-            self.sleep(rt);
+            self.parker.park(rt);
         }
     }
 }

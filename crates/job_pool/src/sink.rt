@@ -38,7 +38,7 @@ pub trait Sink<S: Service> {
         ensures kept { (n : ℕ) → has_room self.old n → has_room self.new n };
 }
 
-/// Keeps all ends.
+/// Keeps all ends, until [`ends_in_order`](crate::ends_in_order) gives them.
 #[derive(Drop)]
 pub struct Collected<E> {
     pub(crate) ends: Vec<NumberedEnd<E>>,

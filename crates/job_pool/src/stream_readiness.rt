@@ -1,6 +1,5 @@
 //! What a worker waits with whose jobs read and write streams.
 use crate::readiness::Turn;
-use crate::rounds::Rounds;
 use crate::service::StepOutcome;
 use std::sync::Wait;
 
@@ -31,35 +30,4 @@ pub trait StreamReadiness<R, W> {
     /// Waits until a slot is ready, it is woken, or it is time to look. `is_idle` where no session is open. It returns at once where a turn
     /// is due, or where it was woken since it last returned.
     fn wait<T: Wait>(&mut self, rt: &T, is_idle: bool);
-}
-
-/// One session at a time, over streams that wait by themselves.
-impl<R, W> StreamReadiness<R, W> for Rounds {
-    fn takes(&mut self, is_idle: bool) -> bool {
-        is_idle
-    }
-
-    fn may_take_memory(&self) -> bool {
-        true
-    }
-
-    fn begin(&mut self, slot: usize, _reader: &R, _writer: &W) {
-        self.add(slot);
-    }
-
-    fn next(&mut self) -> Option<Turn> {
-        self.next_turn()
-    }
-
-    fn ends_turn(&mut self, _slot: usize, _before: u32) -> bool {
-        false
-    }
-
-    fn after(&mut self, _slot: usize, _moved: StepOutcome) {}
-
-    fn wait<T: Wait>(&mut self, rt: &T, is_idle: bool) {
-        if is_idle {
-            self.sleep(rt);
-        }
-    }
 }

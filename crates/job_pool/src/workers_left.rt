@@ -1,4 +1,4 @@
-//! What the workers of a run left that keeps no ends.
+//! What the workers of a run left.
 ghost use Rattle.std.specs.Prelude.{◌≡◌, ◌+◌, ◌∷◌, ◌++◌, [], IfOk, length, ℕ};
 ghost use Rattle.job_pool.specs.Ends.{IsCount};
 ghost use Rattle.job_pool.specs.Telling.{HasPlaces, IsEmpty};
@@ -6,7 +6,7 @@ ghost use Rattle.job_pool.specs.Telling.{HasPlaces, IsEmpty};
 use crate::worker::Left;
 use std::alloc::{AllocError, Global};
 
-/// What the workers of a run left that keeps no ends.
+/// What the workers of a run left.
 #[derive(Drop)]
 pub struct WorkersLeft<W, K> {
     /// The states of the workers, in the order in which their setups were handed in.

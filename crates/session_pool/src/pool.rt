@@ -19,7 +19,7 @@ use crate::session_service::{OfGates, SessionService};
 use crate::settle::{new_places, settle};
 use crate::worker_setup::worker_setups_of;
 use gate_node::{GivenUp, Passes, PoolFault, Shared, Turnstile};
-use job_pool::{Jobs, RunFault, StreamReadiness, Wakeup, run_at};
+use job_pool::{Jobs, RunFault, StreamReadiness, Wakes, Wakeup, run_at};
 use std::alloc::Global;
 use std::io::{Read, Write};
 use std::marker::{Brand, PhantomData};
@@ -71,7 +71,8 @@ where
         ensures served { IfOk result (λ served.
             TellsSource Q.can_be_raised R.remaining W.contents K.told shared.now J.gives
             sessions.old seen.old served sessions.new seen.new) }
-        ensures sinks { IfOk result (λ served. length served.sinks.items ≡ length serving_setups.items) }
+        ensures sinks { IfOk result (λ served.
+            length served.sinks.items ≡ length serving_setups.items) }
         ensures fault { IfErr result (λ fault. LeavesTold J.gives Q.can_be_raised
             R.remaining W.contents shared.now fault sessions.old sessions.new) }
         ensures more { HaveSeenAllOf seen.new seen.old }
@@ -93,7 +94,14 @@ where
             readers: PhantomData,
             writers: PhantomData,
         };
-        match run_at(rt, alloc, &session_service, sessions, worker_setups) {
+        match run_at(
+            rt,
+            alloc,
+            &session_service,
+            sessions,
+            worker_setups,
+            Wakes::LeastLoad,
+        ) {
             Ok(told) => settle(places, told, seen),
             Err(fault) => Err(pool_fault(fault)),
         }
@@ -163,7 +171,8 @@ where
     ensures served { IfOk result (λ served.
         TellsSource Q.can_be_raised R.remaining W.contents K.told shared.now J.gives
         sessions.old seen.old served sessions.new seen.new) }
-    ensures sinks { IfOk result (λ served. length served.sinks.items ≡ length serving_setups.items) }
+    ensures sinks { IfOk result (λ served.
+        length served.sinks.items ≡ length serving_setups.items) }
     ensures fault { IfErr result (λ fault. LeavesTold J.gives Q.can_be_raised
         R.remaining W.contents shared.now fault sessions.old sessions.new) }
     ensures more { HaveSeenAllOf seen.new seen.old }

@@ -1,7 +1,6 @@
 -- What is left of a source where a run ends by a fault.
 use Rattle.std.proofs.Common.{◌≡◌, ℕ, List, inl, inr, refl}
 use Rattle.std.specs.Prelude.{Option, Result, replicate}
-use Rattle.job_pool.specs.Giving.{AllServedOnce}
 use Rattle.job_pool.specs.declared.jobs.JobFault.{JobFault}
 use Rattle.stats_book.specs.Counting.{sum_of, zeros}
 use Rattle.stats_book.specs.declared.totals.Totals.{Totals}
@@ -11,7 +10,7 @@ use Rattle.gate_node.specs.declared.fault.PoolFault.TheVariants.{NoMemory, NoThr
 use Rattle.worker_pool.specs.declared.job.Job.{Job}
 use Rattle.worker_pool.specs.declared.server.ServedJob.{ServedJob}
 use Rattle.worker_pool.specs.Leaving.{ArePastTogether, IsFaultAfter, IsFaultOf, LeavesSource, ServedPastSums}
-use Rattle.worker_pool.proofs.Runs.{source_served}
+use Rattle.worker_pool.proofs.Runs.{AllServedOnce, source_served}
 use Rattle.worker_pool.proofs.Summing.{Counts, sums_sessions}
 
 -- a fault of the ends alone

@@ -1,8 +1,9 @@
 -- What the workers' run, the ends and the tallies come to together.
 use Rattle.std.proofs.Common.{◌≡◌, ℕ, List, map, sym, subst}
 use Rattle.std.specs.Prelude.{Option, Result, Ok, Err, IfOk, replicate}
-use Rattle.job_pool.specs.Giving.{AllServed, AllServedOnce}
+use Rattle.job_pool.specs.Giving.{AllServed, GaveAll}
 use Rattle.job_pool.specs.Lists.{Pairwise}
+use Rattle.job_pool.specs.Turns.{ServedOnce}
 use Rattle.job_pool.specs.declared.jobs.JobFault.{JobFault}
 use Rattle.stats_book.specs.Counting.{sum_of, zeros}
 use Rattle.stats_book.specs.declared.totals.Totals.{Totals}
@@ -25,10 +26,18 @@ pub if_ok_three : {A B : Type 0} (P Q R S : A → Type 0) (r : Result A B) → (
 if_ok_three P Q R S (Ok a) f p q r = f a p q r
 if_ok_three P Q R S (Err b) f p q r = p
 
--- a run over gates that are the run's own
-pub over_own : {J I O : Type 0} (Gives : J → Result (Option (Job I O)) JobFault → J → Type 0) (remaining : I → Option (List ℕ)) (contents : O → Option (List ℕ)) (own shared : Gates) (first last : J) (firsts : List Totals) (served : List (ServedJob I O)) (lasts : List Totals) → own ≡ shared
-    → AllServedOnce Gives (Counts remaining contents own) first firsts served lasts last → AllServedOnce Gives (Counts remaining contents shared) first firsts served lasts last
-over_own Gives remaining contents own shared first last firsts served lasts is h = subst (λ (gates : Gates). AllServedOnce Gives (Counts remaining contents gates) first firsts served lasts last) is h
+-- a source gave these jobs until there was none, each served in one turn of a worker
+abbrev pub AllServedOnce : {J I O : Type 0} → (J → Result (Option (Job I O)) JobFault → J → Type 0) → (Totals → Job I O → Totals → ServedJob I O → Type 0) → J → List Totals → List (ServedJob I O) → List Totals → J → Type 0
+AllServedOnce {J} {I} {O} Gives Serves first firsts ends lasts last = (jobs : List (Job I O)) × GaveAll Gives first jobs last × ServedOnce Serves jobs firsts ends lasts
+
+-- by workers that began in these states, over gates that are the run's own
+pub over_own : {J I O : Type 0} (Gives : J → Result (Option (Job I O)) JobFault → J → Type 0) (remaining : I → Option (List ℕ)) (contents : O → Option (List ℕ)) (own shared : Gates) (first last : J) (began firsts : List Totals) (served : List (ServedJob I O)) (lasts : List Totals) → own ≡ shared → began ≡ firsts
+    → (jobs : List (Job I O)) → GaveAll Gives first jobs last → ServedOnce (Counts remaining contents own) jobs began served lasts → AllServedOnce Gives (Counts remaining contents shared) first firsts served lasts last
+over_own Gives remaining contents own shared first last began firsts served lasts is same jobs gave once = (
+  jobs,
+  gave,
+  subst (λ (gates : Gates). ServedOnce (Counts remaining contents gates) jobs firsts served lasts) is (subst (λ (states : List Totals). ServedOnce (Counts remaining contents own) jobs states served lasts) same once),
+)
 
 module _ {J I O : Type 0} (Gives : J → Result (Option (Job I O)) JobFault → J → Type 0) (remaining : I → Option (List ℕ)) (contents : O → Option (List ℕ)) (shared : Gates) (first last : J) where
   -- the jobs of the source were served

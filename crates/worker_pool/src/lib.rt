@@ -49,6 +49,7 @@ mod laws;
 mod pool;
 mod server;
 mod stream_readiness;
+mod worker_setups;
 
 pub use closed::Closed;
 pub use gate_node::{

@@ -11,11 +11,12 @@ use crate::closed::Closed;
 use crate::job::{End, EndRead, EndWrite, Job};
 use crate::server::{ServedJob, Server};
 use crate::stream_readiness::{ShownStreams, new_rounds};
+use crate::worker_setups::new_worker_setups;
 use gate_node::{PoolFault, Shared, Turnstile, tallies_of};
-use job_pool::{Finished, Jobs, Post, Rounds, StreamReadiness, Wake, Wakes, Wakeup, run_with};
-use session_pool::{
-    NoPause, OfGates, SessionService, WorkerState, new_worker_states, pool_fault, sum_up,
+use job_pool::{
+    Finished, Jobs, Post, Rounds, StreamReadiness, Wake, Wakes, Wakeup, ends_in_order, run_at,
 };
+use session_pool::{NoPause, OfGates, SessionService, WorkerState, pool_fault, sum_up};
 use std::alloc::Global;
 use std::marker::Brand;
 use std::sync::Wait;
@@ -116,7 +117,7 @@ where
     ensures fault { IfErr result (λ fault.
         LeavesSource J.gives I.remaining O.contents shared.now fault jobs.old jobs.new) }
 {
-    let Ok(worker_states) = new_worker_states(alloc, workers) else {
+    let Ok(worker_setups) = new_worker_setups(alloc, workers, posts) else {
         return Err(PoolFault::NoMemory);
     };
     let server = Server {
@@ -124,9 +125,13 @@ where
             rt, shared, turnstile, &NoPause,
         ),
     };
-    match run_with(rt, alloc, &server, jobs, worker_states, posts, wakes) {
+    let left = match run_at(rt, alloc, &server, jobs, worker_setups, wakes) {
+        Ok(left) => left,
+        Err(fault) => return Err(pool_fault(fault)),
+    };
+    match ends_in_order(alloc, &server, left) {
         Ok(finished) => finish(rt, alloc, shared, finished),
-        Err(fault) => Err(pool_fault(fault)),
+        Err(_) => Err(PoolFault::NoMemory),
     }
 }
 
@@ -153,7 +158,7 @@ impl Pool {
     /// - `NoMemory`: memory was refused, to the run or to a worker for the end of a job, which was then not served. The source gave
     ///   some jobs, or all of them.
     /// - `NoThread`: the system refused a thread. No job was taken from the source.
-    /// - `JobsFailed`: the source gave some jobs and then a fault. The jobs that it gave were served.
+    /// - `JobsFailed`: the source gave some jobs and then a fault. The jobs that it gave were served, or refused for want of memory.
     /// - `BookFull`: all jobs were served, and a total would have passed 18,446,744,073,709,551,615: that of a worker, at the end of one of its
     ///   sessions, or the sum over the workers.
     ///

@@ -1,7 +1,8 @@
 //! What the services and the sources of the tests are, and one run with them.
 ghost use Rattle.std.specs.Prelude.{◌≡◌, ◌<◌};
 
-use job_pool::{Finished, JobFault, Jobs, RunFault, Service, StepOutcome, run};
+use crate::jobs::one_by_one::run;
+use job_pool::{Finished, JobFault, Jobs, RunFault, Service, StepOutcome};
 use std::alloc::{AllocError, Global};
 use std::sync::Wait;
 use std::sync::atomic::{AtomicU64, Ordering};
@@ -11,6 +12,7 @@ use std::thread::Threads;
 
 mod faults;
 mod locking;
+mod one_by_one;
 mod order;
 mod pace;
 mod turns;

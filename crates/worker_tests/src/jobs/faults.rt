@@ -1,8 +1,9 @@
 //! A source that fails ends the run, and its workers are joined.
 ghost use Rattle.std.specs.Prelude.{◌≡◌};
 
+use crate::jobs::one_by_one::run;
 use crate::jobs::{Numbers, doubled};
-use job_pool::{JobFault, Jobs, RunFault, Service, StepOutcome, run};
+use job_pool::{JobFault, Jobs, RunFault, Service, StepOutcome};
 use std::alloc::Global;
 use std::process::Abort;
 use std::sync::Wait;

@@ -1,6 +1,7 @@
 //! A service that waits for a lock, by a handle of its own.
 use crate::jobs::Numbers;
-use job_pool::{Service, StepOutcome, run};
+use crate::jobs::one_by_one::run;
+use job_pool::{Service, StepOutcome};
 use std::alloc::Global;
 use std::process::Abort;
 use std::sync::{Mutex, Wait};

@@ -1,8 +1,9 @@
 //! Jobs that come while others are served: who waits for one is woken, each worker has one open, and as many wait as the queue holds.
 ghost use Rattle.std.specs.Prelude.{◌≡◌};
 
+use crate::jobs::one_by_one::run;
 use crate::jobs::wait_for;
-use job_pool::{JobFault, Jobs, MAX_WAITING, Service, StepOutcome, run};
+use job_pool::{JobFault, Jobs, MAX_WAITING, Service, StepOutcome};
 use std::alloc::Global;
 use std::process::Abort;
 use std::rt::Clock;

@@ -5,7 +5,7 @@ mod posts;
 
 use crate::jobs::turns::posts::worker_setups_of;
 use crate::jobs::wait_for;
-use job_pool::{JobFault, Jobs, Service, StepOutcome, run_at};
+use job_pool::{JobFault, Jobs, Service, StepOutcome, Wakes, run_at};
 use std::alloc::Global;
 use std::process::Abort;
 use std::sync::Wait;
@@ -345,7 +345,14 @@ fn is_served<T: Threads + Wait + Sync>(rt: &T, alloc: Global, row: &Row) -> bool
         left: row.jobs,
         seen: &seen,
     };
-    let is_done = match run_at(rt, alloc, &service, &mut source, worker_setups) {
+    let is_done = match run_at(
+        rt,
+        alloc,
+        &service,
+        &mut source,
+        worker_setups,
+        Wakes::LeastLoad,
+    ) {
         Ok(told) => told.given == row.jobs.len() && told.refused == 0,
         Err(_) => false,
     };

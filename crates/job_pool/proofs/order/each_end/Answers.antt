@@ -12,5 +12,5 @@ pub loop-place-preserved : goal.loop-place-preserved
 loop-place-preserved g c =
     let ends = c.loop-place.ends.items in
     let rest = into_iter_items c.next.new.self in
-    subst (λ es. map (λ end. Some end) es ++ rest ≡ c.args.places.items) (sym c.in-Ok.ensures.items)
+    subst (λ es. map (λ end. Some end) es ++ rest ≡ c.args.places.items) (sym c.in_ok-push.ensures.items)
     (started (λ end. Some end) ends c.in-Some-place.end c.in-Some.place (into_iter_items c.loop-place.place-iterator) rest c.args.places.items (sym c.in-Some-place.is) c.in-Some.ensures.steps.0 c.loop-place.invariant)

@@ -11,7 +11,7 @@ loop-init g c =
 pub loop-preserved : goal.loop-preserved
 loop-preserved g c =
     let was = c.loop.invariant in
-    let items = c.in-Ok.ensures.items in (
+    let items = c.in_ok-push.ensures.items in (
       ap length items ∙ length-append c.loop.places.items _ ∙ ap (λ n. n + 1) was.0,
       subst (λ ps. Every (λ place. place ≡ None) ps) (sym items) (all_snoc (λ place. place ≡ None) c.loop.places.items None was.1 refl),
     )

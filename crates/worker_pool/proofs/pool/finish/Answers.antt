@@ -1,5 +1,4 @@
 use Rattle.std.proofs.Common.{inr, sym, subst}
-use Rattle.std.proofs.lemmas.Result.{IfErr-weaker}
 use Rattle.gate_node.specs.OneHistory.{CallersAreOfRun}
 use Rattle.worker_pool.specs.Serving.{WereOfRun, end_passes}
 use Rattle.worker_pool.proofs.Faults.{fault_after}

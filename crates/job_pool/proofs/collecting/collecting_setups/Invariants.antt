@@ -4,7 +4,7 @@ use Rattle.std.specs.Vec.Iter.{into_iter_items}
 use Rattle.job_pool.specs.Lists.{Every}
 use Rattle.job_pool.specs.Sinks.{HasRoom, kept}
 use Rattle.job_pool.specs.Workers.{IsNew, worker_of}
-use Rattle.job_pool.proofs.worker_setups.worker_setups_of.Given as goal
+use Rattle.job_pool.proofs.collecting.collecting_setups.Given as goal
 
 abbrev pub invariant-loop-worker : goal.invariant-loop-worker
 invariant-loop-worker g l =

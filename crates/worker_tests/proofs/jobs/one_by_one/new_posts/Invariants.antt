@@ -1,5 +1,5 @@
 use Rattle.std.proofs.Common.{◌≡◌, length}
-use Rattle.job_pool.proofs.rounds.new_rounds.Given as goal
+use Rattle.worker_tests.proofs.jobs.one_by_one.new_posts.Given as goal
 
 abbrev pub invariant-loop : goal.invariant-loop
 invariant-loop l = length l.posts.items ≡ l.counter

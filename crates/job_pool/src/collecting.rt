@@ -4,19 +4,19 @@ ghost use Rattle.job_pool.specs.Lists.{Every};
 ghost use Rattle.job_pool.specs.Sinks.{HasRoom, kept};
 ghost use Rattle.job_pool.specs.Workers.{IsNew, worker_of};
 
-use crate::readiness::{Post, Readiness, Wakeup, WorkerSetup};
-use crate::service::Service;
+use crate::readiness::{Post, WorkerSetup};
 use crate::sink::Collected;
 use std::alloc::{AllocError, Global};
 
-/// A setup for each of these workers, at one of these posts, which keeps all ends.
-pub(crate) fn worker_setups_of<S: Service, D: Readiness<S> + Drop, B: Wakeup + Drop>(
+/// A setup for each of these workers, at one of these posts, whose sink keeps all ends. The sinks make room for an end when a job is opened.
+pub fn collecting_setups<W: Drop, E: Drop, D: Drop, B: Drop>(
     alloc: Global,
-    workers: Vec<S::Worker>,
+    workers: Vec<W>,
     posts: Vec<Post<D, B>>,
-) -> Result<Vec<WorkerSetup<S::Worker, Collected<S::End>, D, B>>, AllocError>
+) -> Result<Vec<WorkerSetup<W, Collected<E>, D, B>>, AllocError>
     requires { length posts.items ≡ length workers.items }
-    ensures workers { IfOk result (λ worker_setups. map worker_of worker_setups.items ≡ workers.items) }
+    ensures workers { IfOk result (λ worker_setups.
+        map worker_of worker_setups.items ≡ workers.items) }
     ensures new { IfOk result (λ worker_setups. Every (IsNew kept HasRoom) worker_setups.items) }
 {
     let mut worker_setups = Vec::with_capacity(alloc, workers.len())?;
