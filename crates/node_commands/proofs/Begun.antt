@@ -7,7 +7,7 @@ use Rattle.job_pool.specs.Giving.{GaveAll, GivesOnly}
 use Rattle.job_pool.specs.Lists.{Every}
 use Rattle.gate_node.specs.Gates.{Gates}
 use Rattle.gate_node.specs.OneHistory.{IsSeen}
-use Rattle.gate_node.specs.Passes.{Sights, ArePassesOf}
+use Rattle.gate_node.specs.Passes.{Sights, ArePassesOf, AreUnused}
 use Rattle.gate_node.specs.Tallies.{GateHistory}
 use Rattle.gate_node.proofs.Histories.{each_seen}
 use Rattle.session_pool.specs.PausedSessions.{PausedSessionView, CanGoOn}
@@ -47,12 +47,12 @@ every_at histories gates given seen saw [] h = tt
 every_at histories gates given seen saw (one ∷ ended) h = (told_at (λ _. None) replies_of histories gates given seen one saw h.0, every_at histories gates given seen saw ended h.1)
 
 -- what a run that began with no session that rested told, with tallies of what its passes have seen
-pub are_told : {T : Type 0} (first last : SessionsView) (gates : Gates) (unused seen : Sights) (outcome : ServedUntil T) → first.rested ≡ [] → first.source.gates ≡ gates → first.source.given ≡ 0 → ArePassesOf gates seen
+pub are_told : {T : Type 0} (first last : SessionsView) (gates : Gates) (unused seen : Sights) (outcome : ServedUntil T) → first.rested ≡ [] → first.source.gates ≡ gates → first.source.given ≡ 0 → AreUnused unused → ArePassesOf gates seen
     → TellsSource ⊥ (λ _. None) replies_of (λ (sink : ToldConnections). sink) gates GivesSession first unused outcome.served last seen
     → outcome.connections ≡ last.source.given + last.source.refused → outcome.closed ≡ last.source.refused
     → IsTallied gates outcome.served outcome.connections outcome.closed seen outcome
     → AreTold gates outcome.served outcome.tallies outcome.connections outcome.closed
-are_told first last gates unused seen outcome none same new kept told connections closed tallied =
+are_told first last gates unused seen outcome none same new nothing kept told connections closed tallied =
     let begun = all_begun first told.0 last none told.1 in
     let jobs = begun.0 in
     let given : told.0 ≡ map (begun_by gates) jobs = begun.1 ∙ ap (λ (g : Gates). map (begun_by g) jobs) same in
@@ -70,10 +70,13 @@ are_told first last gates unused seen outcome none same new kept told connection
       jobs = jobs;
       new = new_for first.source gates same jobs last.source begun.2;
       unused = unused;
+      had_seen_nothing = nothing;
       seen = seen;
       told = tells;
+      passes = kept;
       histories = histories;
       of_gates = history.of_gates;
+      beginnings = saw;
       positions = every_at histories gates (map (begun_by gates) jobs) seen saw tells.ended tells.each;
       tallied = history.tallied;
       counts_all = history.counted;

@@ -2,3 +2,5 @@
 pub mod Sources
 pub mod Begun
 pub mod Periods
+pub mod Legal
+pub mod Concluded

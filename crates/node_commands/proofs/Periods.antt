@@ -1,37 +1,27 @@
 -- A server that is paused and goes on.
 use Rattle.std.proofs.Common.{◌≡◌, ◌∙◌, ℕ, ◌+◌, ◌-◌, ◌≤◌, true, None, Some, List, [], ◌∷◌, ◌++◌, length, map, refl, ap, sym, subst, arith}
-use Rattle.std.proofs.lemmas.List.Elements.{All-cons, All-head, All-nil}
-use Rattle.std.specs.List.{AllZip}
 use Rattle.std.specs.Prelude.{Option, IfSome}
 use Rattle.std.specs.Option.{option_map}
 use mathlib.Core.Logic.{inl, inr}
 use Rattle.job_pool.specs.Lists.{Every, concat}
-use Rattle.gate_node.specs.Gates.{Gates, handoff_of}
-use Rattle.gate_node.specs.Merging.{HaveSeenAllOf}
-use Rattle.gate_node.specs.OneHistory.{IsSeen, ShareHistories}
+use Rattle.gate_node.specs.Gates.{Gates}
 use Rattle.gate_node.specs.Passes.{Sights, ArePassesOf}
-use Rattle.gate_node.specs.Tallies.{GateHistory}
-use Rattle.gate_node.proofs.Histories.{each_seen}
 use Rattle.session_pool.specs.declared.served_sessions.ServedSessions.{ServedSessions}
 use Rattle.session_pool.specs.Resuming.{IsLater, IsOnceDiverted}
 use Rattle.session_pool.specs.PausedSessions.{CanGoOn, PausedSessionView}
 use Rattle.session_pool.specs.Telling.{RestedSession, IsRestedSession, TellsAll, TellsSource, now_of}
 use Rattle.session_pool.proofs.Resuming.{later_on, later_to, passes_later}
-use Rattle.session_pool.proofs.EndReporters.{seen_less, seen_same, seen_through}
 use Rattle.socket_streams.specs.declared.halves.RequestHalf.{RequestHalf}
 use Rattle.socket_streams.specs.declared.halves.ReplyHalf.{ReplyHalf}
 use Rattle.socket_streams.specs.Arriving.{ArrivalsView}
 use Rattle.socket_streams.specs.Sessions.{SessionsView, GivesSession, begun_by, in_turn}
 use Rattle.socket_streams.proofs.Resting.{gave_sessions}
-use Rattle.node_commands.specs.declared.controlled.Controlled.{Controlled}
 use Rattle.node_commands.specs.declared.period.Before.{Before}
 use Rattle.node_commands.specs.declared.progress.Progress.{Progress}
 use Rattle.node_commands.specs.declared.progress.Paused.{Paused}
 use Rattle.node_commands.specs.declared.options.ServerSettings.{ServerSettings}
 use Rattle.node_commands.specs.Runs.{IsNewRun, ToldConnections, replies_of}
-use Rattle.handoff_tracks.specs.Tracks.{HaveTracks}
-use Rattle.node_commands.specs.Periods.{AddsUp, AllTellIn, CanServe, GoesThrough, HasRun, HasServed, IsControlled, IsNew, IsReady, Moves, rested_in}
-use Rattle.node_commands.proofs.Begun.{every_at}
+use Rattle.node_commands.specs.Periods.{AddsUp, CanServe, GoesThrough, HasRun, HasServed, IsNew, IsReady, Moves, rested_in}
 use Rattle.node_commands.proofs.Sources.{gave_all, new_for}
 
 abbrev Session : Type 0
@@ -158,44 +148,6 @@ begins settings first of_run is = record {
   budget = sym of_run.budget;
   limit = none_more settings.options.connections first.progress.connections is.unaccepted;
 }
-
--- what a server had seen it has seen later on, and its passes are of the same gates
-seen_on : (first : Paused) (path : List Paused) (last : Paused) → GoesThrough first path last → HaveSeenAllOf last.progress.seen first.progress.seen
-seen_on first [] last same = subst (λ (p : Paused). HaveSeenAllOf p.progress.seen first.progress.seen) (sym same) (seen_same first.progress.seen.primaries)
-seen_on first (next ∷ path) last (inl (same, served), goes) =
-    seen_through last.progress.seen.primaries next.progress.seen.primaries first.progress.seen.primaries (seen_on next path last goes) served.told.seen_on
-seen_on first (next ∷ path) last (inr (same, index, diverted), goes) =
-    subst (λ (p : Progress). HaveSeenAllOf last.progress.seen p.seen) same (seen_on next path last goes)
-
--- so what ended in whatever period is by steps in histories of which the last passes have seen beginnings
-all_tell : (histories : List GateHistory) (first : Paused) (path : List Paused) (last : Paused) (goes : GoesThrough first path last) → AllZip IsSeen histories last.progress.seen.primaries → AllTellIn histories first path last goes
-all_tell histories first [] last goes saw = tt
-all_tell histories first (next ∷ path) last (inl (same, served), goes) saw =
-    let saw_then = seen_less histories last.progress.seen.primaries next.progress.seen.primaries saw (seen_on next path last goes) in
-    (every_at histories first.shared (in_turn (rested_in first.progress) ++ map (begun_by first.shared) served.jobs) next.progress.seen saw_then served.told.ended served.told.each, all_tell histories next path last goes saw)
-all_tell histories first (next ∷ path) last (inr (same, index, diverted), goes) saw = (tt, all_tell histories next path last goes saw)
-
--- what came of a server that ended so, with tallies of what its passes have seen
-pub is_controlled : (settings : ServerSettings) (last : Paused) (outcome : Controlled) → CanServe settings last
-    → ShareHistories (λ (s : Sights). s) last.shared.gates (last.progress.seen ∷ []) outcome.tallies.tallies.items outcome.tallies.count_all
-    → outcome.totals ≡ last.progress.totals → outcome.connections ≡ last.progress.connections → outcome.closed ≡ last.progress.closed → HaveTracks (handoff_of last.shared) outcome.tracks → IsControlled settings outcome
-is_controlled settings last outcome can history totals connections closed tracks =
-    let run = can.run in
-    let seen = last.progress.seen in
-    let Kept : Sights → Type 0 = λ sights. ArePassesOf last.shared sights in
-    let callers = All-cons Kept seen [] can.ready.passes (All-nil Kept) in
-    let saw = All-head (λ (sights : Sights). AllZip IsSeen history.histories sights.primaries) seen [] (each_seen (λ (s : Sights). s) last.shared history.histories history.of_gates (seen ∷ []) callers history.seen) in
-    record {
-      last = last;
-      run = run;
-      limit = can.limit;
-      history = history;
-      positions = all_tell history.histories run.first run.path last run.goes saw;
-      totals = totals;
-      connections = connections;
-      closed = closed;
-      tracks = tracks;
-    }
 
 -- a server that wasn't changed may go on as before
 pub stays : (settings : ServerSettings) (last next : Paused) → CanServe settings last → next.shared ≡ last.shared → next.progress ≡ last.progress → CanServe settings next

@@ -1,17 +1,18 @@
 -- What a server comes to that is paused and goes on.
-use Rattle.std.specs.Prelude.{◌≡◌, ◌+◌, ◌≤◌, ◌⊎◌, ◌++◌, ℕ, List, [], ◌∷◌, None, IfSome, length, map}
+use Rattle.std.specs.Prelude.{◌≡◌, ◌+◌, ◌≤◌, ◌⊎◌, ◌++◌, ℕ, true, List, [], ◌∷◌, None, IfSome, length, map}
 use mathlib.Core.Logic.{inl, inr}
 use Rattle.job_pool.specs.Lists.{Every, concat}
 use Rattle.stats_book.specs.Counting.{both, zeros}
-use Rattle.gate_node.specs.Gates.{Gates, handoff_of}
+use Rattle.gate_node.specs.Gates.{Gates, AreNone, handoff_of}
 use Rattle.gate_node.specs.OneHistory.{ShareHistories}
 use Rattle.gate_node.specs.Passes.{Sights, ArePassesOf, AreUnused}
+use Rattle.gate_node.specs.Plain.{AreLegal}
 use Rattle.gate_node.specs.Tallies.{GateHistory}
 use Rattle.worker_pool.specs.declared.job.Job.{Job}
 use Rattle.session_pool.specs.declared.served_sessions.ServedSessions.{ServedSessions}
 use Rattle.session_pool.specs.Resuming.{IsOnceDiverted}
 use Rattle.session_pool.specs.PausedSessions.{CanGoOn, PausedSessionView}
-use Rattle.session_pool.specs.Telling.{TellsAll}
+use Rattle.session_pool.specs.Telling.{ToldSession, TellsAll}
 use Rattle.socket_streams.specs.declared.halves.RequestHalf.{RequestHalf}
 use Rattle.socket_streams.specs.declared.halves.ReplyHalf.{ReplyHalf}
 use Rattle.socket_streams.specs.Arriving.{IsNewConnection}
@@ -22,7 +23,7 @@ use Rattle.node_commands.specs.declared.progress.Progress.{Progress}
 use Rattle.node_commands.specs.declared.progress.Paused.{Paused}
 use Rattle.node_commands.specs.declared.options.ServerSettings.{ServerSettings}
 use Rattle.handoff_tracks.specs.Tracks.{HaveTracks}
-use Rattle.node_commands.specs.Runs.{IsAtPositions, IsNewRun, ToldConnections, replies_of}
+use Rattle.node_commands.specs.Runs.{IsAtPositions, IsByRegister, IsNewRun, ToldConnections, replies_of}
 
 -- the sessions that rest, of each worker
 abbrev pub rested_in : Progress → List (List (PausedSessionView RequestHalf ReplyHalf))
@@ -88,24 +89,33 @@ pub record CanServe (settings : ServerSettings) (last : Paused) : Type 0 where
   pub budget : settings.options.sweep ≡ last.shared.budget
   pub limit : IfSome settings.options.connections (λ limit. last.progress.connections ≤ limit)
 
--- in a period the sessions that ended are by steps in these histories
-abbrev pub TellsIn : List GateHistory → (old new : Paused) → Moves old new → Type 0
-TellsIn histories old new (inl (same, served)) = Every (IsAtPositions histories old.shared) served.told.ended
-TellsIn histories old new (inr diverted) = Unit {0}
+-- this holds of each session that ended in a period, over the gates of that period
+abbrev pub EachEnded : (Gates → ToldSession RequestHalf ReplyHalf → Type 0) → (old new : Paused) → Moves old new → Type 0
+EachEnded P old new (inl (same, served)) = Every (P old.shared) served.told.ended
+EachEnded P old new (inr diverted) = Unit {0}
 
--- so in each of them
-abbrev pub AllTellIn : List GateHistory → (first : Paused) (path : List Paused) (last : Paused) → GoesThrough first path last → Type 0
-AllTellIn histories first [] last goes = Unit {0}
-AllTellIn histories first (next ∷ path) last goes = TellsIn histories first next goes.0 × AllTellIn histories next path last goes.1
+-- so in all of them
+abbrev pub AllEnded : (Gates → ToldSession RequestHalf ReplyHalf → Type 0) → (first : Paused) (path : List Paused) (last : Paused) → GoesThrough first path last → Type 0
+AllEnded P first [] last goes = Unit {0}
+AllEnded P first (next ∷ path) last goes = EachEnded P first next goes.0 × AllEnded P next path last goes.1
+
+-- The gates are still those of the first period. These histories are legal for the sibling register, and each session that ended, in whatever period, is by
+-- steps of the register among others, in them.
+pub record PeriodsAreLegal (histories : List GateHistory) (first : Paused) (path : List Paused) (last : Paused) (goes : GoesThrough first path last) : Type 0 where
+  pub same_gates : last.shared ≡ first.shared
+  pub legal : AreLegal last.shared histories
+  pub by_register : AllEnded (IsByRegister histories) first path last goes
 
 -- What came of a server. The totals are what all sessions counted, and the tallies are those of one history of each primary's vnode through all of it: each
--- reply at a primary of each session that ended, in whatever period, is at a position of that. What is known of the partitions' diversions holds.
+-- reply at a primary of each session that ended, in whatever period, is at a position of that. Where no partition was ever diverted, and the tallies count
+-- all of these histories, all replies are legal. What is known of the partitions' diversions holds.
 pub record IsControlled (settings : ServerSettings) (outcome : Controlled) : Type 0 where
   pub last : Paused
   pub run : HasRun settings last
   pub limit : IfSome settings.options.connections (λ limit. last.progress.connections ≤ limit)
   pub history : ShareHistories (λ (sights : Sights). sights) last.shared.gates (last.progress.seen ∷ []) outcome.tallies.tallies.items outcome.tallies.count_all
-  pub positions : AllTellIn history.histories run.first run.path last run.goes
+  pub positions : AllEnded (IsAtPositions history.histories) run.first run.path last run.goes
+  pub legal : AreNone last.shared.fallbacks → outcome.tallies.count_all ≡ true → PeriodsAreLegal history.histories run.first run.path last run.goes
   pub totals : outcome.totals ≡ last.progress.totals
   pub connections : outcome.connections ≡ last.progress.connections
   pub closed : outcome.closed ≡ last.progress.closed

@@ -275,7 +275,9 @@ where
     // From a new run on the workers served or a partition was diverted, one behind another. In each period every session that rested went on, and each
     // connection that came had one begun; each of these ended, and its sink was told so, or rests, or was refused, once. What it wrote is what a session
     // writes from its first read on, by a node over the gates as they were at each step. No more connections were accepted than were to be. There is one
-    // history of each primary's vnode through all periods, of which every session that is over has seen a beginning, with its tally. What is known of a
+    // history of each primary's vnode through all periods, of which every session that is over has seen a beginning, with its tally. Where no partition was
+    // ever diverted, and the tallies count all, these histories are legal for the sibling register, and each of these sessions is by steps of the register
+    // among others, in them. What is known of a
     // partition's diversions is what each call of its hand-offs gave, one behind another: where all is known, no sibling was lost by them and none came
     // again (`known_hand_offs_join`).
     ensures { IfOk result (IsControlled settings.now) }

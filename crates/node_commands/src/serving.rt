@@ -122,9 +122,12 @@ fn announce<L: OpenListener, W: Write>(listener: &L, writer: &mut W) {
 
 /// Serves the next connections of a listener, so many, by threads, and returns what came of them when all have ended.
 ///
-/// Each connection is served by one thread, to its end, each as it is ready; a thread has many. There is one history of each vnode, legal, and each reply of each connection is at a position of it, which is never before another position that this connection
+/// Each connection is served by one thread, to its end, each as it is ready; a thread has many. There is one history of each vnode, which its machine
+/// accepts, and each reply of each connection is at a position of it, which is never before another position that this connection
 /// had a reply at. So what two connections are told of a key fits together. The vnode's tally is of the whole of that history, and the
-/// totals are the sums of what the sessions counted. Order in real time, and order between vnodes, aren't said.
+/// totals are the sums of what the sessions counted. Where the tallies count all that the histories have (`count_all`), the histories are legal for the
+/// sibling register, and each reply is the register's at its position, but an error of the gate and one for which memory was refused. Order in real time,
+/// and order between vnodes, aren't said.
 ///
 /// It writes two lines: `listening 127.0.0.1:P` before the first connection is accepted, and the totals after the last one has ended. A
 /// failed write of them is passed over. The log has a line for each connection when it is accepted, and for each one's end, with its
@@ -155,7 +158,8 @@ where
     requires run { 1 ≤ settings.now.run }
 
     // Each connection was served once, to its end, over the gates of a new run, in one history of each vnode; these are the ends, the
-    // tallies of the vnodes at the ends of these histories, and the totals.
+    // tallies of the vnodes at the ends of these histories, and the totals. Where the tallies count all, these histories are legal for the sibling register,
+    // and each connection was served by steps of the register among others, in them.
     ensures served { IfOk result (AreConnectionsServed settings.now) }
 {
     let Some(shared) = new_shared(alloc, settings.ring, settings.run, settings.sweep) else {

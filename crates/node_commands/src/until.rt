@@ -205,12 +205,13 @@ where
 /// `listening ADDRESS` once all threads were started, before the first connection is accepted, and the totals at the end. A failed write of these is passed over. The log
 /// has a line for each connection when it is accepted, and one when it has ended.
 ///
-/// There is one history of the primary of each partition, legal, and after each step of each session its passes have seen beginnings of
-/// these histories. So each reply is at a position of the history of its key's vnode
+/// There is one history of the primary of each partition, which the vnode's machine accepts, and after each step of each session its passes have seen
+/// beginnings of these histories. So each reply is at a position of the history of its key's vnode
 /// ([`replies_are_at_positions`](gate_node::replies_are_at_positions)), and what two connections are told of one vnode fits together. The
 /// tallies are of the whole of these histories, in the order of the partitions, each of one look after the threads were joined, made
-/// again where a session had seen more. Order in real time isn't said, nor any order between vnodes. Where memory is refused for a tally, it is
-/// refused with `NoMemory`; what the connections did stays.
+/// again where a session had seen more. Where they count all that the histories have (`count_all`), the histories are legal for the sibling register, and
+/// each reply is the register's at its position, but an error of the gate and one for which memory was refused. Order in real time isn't said, nor any order
+/// between vnodes. Where memory is refused for a tally, it is refused with `NoMemory`; what the connections did stays.
 pub fn serve_on_until<'a, T, W, I>(
     rt: &'a T,
     alloc: Global,
@@ -227,7 +228,8 @@ where
     // Each connection that came to a worker was served over the gates of a new run, in one history of each vnode, and its end was told the
     // worker's sink, once, or it was refused there for want of memory; the tallies are those of the vnodes at the ends of these histories, and the
     // totals are what the sessions counted. The connections that were accepted are those that came to a worker and those that were
-    // closed before.
+    // closed before. Where the tallies count all, these histories are legal for the sibling register, and each session is by steps of the register among
+    // others, in them.
     ensures served { IfOk result (IsServedUntil settings.now) }
 
     // No more connections were accepted than were to be, and just as many where no input could end serving before.

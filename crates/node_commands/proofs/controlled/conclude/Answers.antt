@@ -1,6 +1,6 @@
 use Rattle.std.proofs.Common.{refl}
 use Rattle.node_commands.specs.declared.controlled.Controlled.{Controlled}
-use Rattle.node_commands.proofs.Periods.{is_controlled}
+use Rattle.node_commands.proofs.Concluded.{is_controlled}
 use Rattle.node_commands.proofs.controlled.conclude.Goals as goal
 
 pub tallies-requires : goal.tallies-requires
