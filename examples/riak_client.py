@@ -8,8 +8,11 @@ import socket
 import struct
 import subprocess
 
-import riak_pb2
-import riak_kv_pb2
+try:
+    import riak_pb2
+    import riak_kv_pb2
+except ModuleNotFoundError as missing:
+    raise ModuleNotFoundError(f"{missing}: install Debian's python3-protobuf, and use its /usr/bin/python3") from None
 
 # Message codes: one byte in front of each message.
 ERROR, PING, PONG, GET, GOT, PUT, PUT_DONE, DELETE, DELETED = 0, 1, 2, 9, 10, 11, 12, 13, 14
