@@ -19,6 +19,10 @@ is_short_key key = bytes_eq key.bucket_type default_type && are_short key.bucket
 abbrev pub short_key : Key → Option Key
 short_key key = cond (is_short_key key) (Some key) None
 
+-- the key of the default bucket type with these names, where both are so short
+abbrev pub short_names : List ℕ → List ℕ → Option Key
+short_names bucket key = cond (are_short bucket key) (Some (default_key bucket key)) None
+
 -- the key of these names
 abbrev pub key_named : Inside → Key
 key_named names = default_key names.bucket names.key

@@ -154,6 +154,36 @@ impl NameMap {
         }
     }
 
+    /// The place of a key of a bucket type by its names of up to 15 bytes.
+    #[inline(always)]
+    fn get_names(
+        &self,
+        bucket_type: &BucketType,
+        bucket: &ShortName,
+        key: ShortName,
+    ) -> Option<usize>
+        requires bucket { is_short bucket.now ≡ true }
+        requires key { is_short key ≡ true }
+        ensures place { result ≡ get key_cmp self.now (key_of bucket_type.now (bucket.now, key)) }
+        ensures ordered { IsOrdered key_cmp self.now }
+    {
+        match self.types.get(bucket_type) {
+            Some(buckets) => buckets.get_names(bucket, key),
+            None => None,
+        }
+    }
+
+    /// The same as `get` of a key with short names, where no whole key lies anywhere.
+    #[inline(always)]
+    pub fn get_short(&self, key: ShortKey) -> Option<usize>
+        ensures place { result ≡ get key_cmp self.now key }
+        ensures ordered { IsOrdered key_cmp self.now }
+    {
+        let bucket_type = BucketType::default_type();
+        let names = key.names();
+        self.get_names(&bucket_type, &names.0, names.1)
+    }
+
     /// The least key behind one, or of all where none is given, with its place. It takes no memory.
     pub fn next(&self, after: Option<KeyRef<'_>>) -> Option<(FoundKey<'_>, usize)>
         ensures next { option_map (λ entry. (key_found entry.0, entry.1)) result

@@ -1,6 +1,6 @@
 //! Keys with short names, as numbers.
 
-ghost use Rattle.std.specs.Prelude.{◌≡◌, true, Some, None, cond};
+ghost use Rattle.std.specs.Prelude.{◌≡◌, true};
 ghost use Rattle.std.proofs.Common.{rules};
 ghost use Rattle.std.specs.Cmp.{partial_order_from_own_ties};
 ghost use Rattle.std.specs.Cmp.Rules.{comparing};
@@ -9,7 +9,7 @@ ghost use Rattle.std.specs.Ordering.{nat_cmp, as_partial_cmp};
 ghost use Rattle.riak_msgs.specs.KeyOrder.{key_cmp, key_eq};
 ghost use Rattle.riak_msgs.specs.Requests.{default_key};
 ghost use Rattle.names.specs.ShortNames.{is_short};
-ghost use Rattle.names.specs.ShortKeys.{short_key, are_short};
+ghost use Rattle.names.specs.ShortKeys.{short_key, short_names};
 
 use crate::short_name::ShortName;
 use riak_msgs::{BucketType, Bytes, Key};
@@ -56,15 +56,14 @@ fn compare_bytes(bytes: &Bytes, name: ShortName) -> Ordering
 }
 
 impl ShortKey {
-    /// The key of two names, where both are short.
+    /// The key of the default bucket type with these names, where both are short. It takes no memory.
     #[inline(always)]
-    fn of_names(bucket: &Bytes, key: &Bytes) -> Option<ShortKey>
-        ensures { result
-            ≡ cond (are_short bucket.now key.now) (Some (default_key bucket.now key.now)) None }
+    pub fn of_names(bucket: &[u8], key: &[u8]) -> Option<ShortKey>
+        ensures { result ≡ short_names bucket.now key.now }
     {
-        match ShortName::of(bucket.as_slice()) {
+        match ShortName::of(bucket) {
             None => None,
-            Some(bucket) => match ShortName::of(key.as_slice()) {
+            Some(bucket) => match ShortName::of(key) {
                 None => None,
                 Some(key) => Some(ShortKey { bucket, key }),
             },
@@ -78,7 +77,7 @@ impl ShortKey {
     {
         let default = BucketType::default_type();
         match key.bucket_type.cmp(&default) {
-            Ordering::Equal => ShortKey::of_names(&key.bucket, &key.key),
+            Ordering::Equal => ShortKey::of_names(key.bucket.as_slice(), key.key.as_slice()),
             _ => None,
         }
     }

@@ -107,6 +107,7 @@ pub use link::Link;
 pub use pair::Pair;
 pub use pb_fields::{Message, Output, encode_message, encode_repeated, encoded_len};
 pub use put::{PutAsk, PutReply};
+pub use read_get::plain_get_names;
 pub use reply::{Reply, write_reply};
 pub use reply_laws::replies_say_one;
 pub use reply_view::read_reply;

@@ -1,11 +1,13 @@
 //! Reading a get.
 
-ghost use Rattle.std.specs.Prelude.{◌≡◌, List, [], IfOk, OnErr};
+ghost use Rattle.std.specs.Prelude.{◌≡◌, List, [], IfOk, IfSome, OnErr, Ok};
 ghost use Rattle.pb_fields.specs.Field.{WireField};
 ghost use Rattle.pb_fields.specs.Merging.{RefusesNone, Tracks};
 ghost use Rattle.pb_fields.specs.Message.{Encodes};
 ghost use Rattle.riak_msgs.specs.PlainFields.{BeginsWithNames};
 ghost use Rattle.riak_msgs.specs.Reading.{Reads, get_of};
+ghost use Rattle.riak_msgs.specs.Requests.{plain_get};
+ghost use Rattle.riak_msgs.specs.declared.request.Request.TheVariants.{Get};
 ghost use Rattle.riak_msgs.specs.SeenRequests.{IsSeenGetOf};
 
 use crate::context_bytes::ContextBytes;
@@ -27,6 +29,23 @@ const HEAD: u32 = 8;
 const DELETED_VCLOCK: u32 = 9;
 
 const BUCKET_TYPE: u32 = 13;
+
+/// The bucket and the key of a get, where its body is in the plain form: the one encoding of a get without
+/// options of a key of the default type, whose names have bytes. None, where the body is of any other
+/// form, or of no get. What is found borrows from the body: it takes no memory.
+#[inline(always)]
+pub fn plain_get_names(body: &[u8]) -> Option<(&[u8], &[u8])>
+    ensures { IfSome result (λ names.
+        Reads 9 body.now (Ok (Get (plain_get names.0.now names.1.now)))) }
+{
+    let Some((bucket, key, rest)) = first_names(body) else {
+        return None;
+    };
+    if !rest.is_empty() {
+        return None;
+    }
+    Some((bucket, key))
+}
 
 /// Decodes the body of a get. Names in the plain form are read straight, and so are the options behind
 /// them; a body of any other form is scanned.

@@ -13,9 +13,13 @@ IsRingSize size = IsTrue (is_power_of_two size) × (size ≤ 1024)
 abbrev pub with_length : List ℕ → List ℕ
 with_length bytes = big_bytes 4 (length bytes % 2 ^ 32) ++ bytes
 
--- the digest of a key: SHA-1 over its bucket type, bucket and key, each after its length
+-- the digest of a bucket type, a bucket and a key: SHA-1 over them, each after its length
+abbrev pub names_digest : List ℕ → List ℕ → List ℕ → List ℕ
+names_digest bucket_type bucket key = sha1 ((with_length bucket_type ++ with_length bucket) ++ with_length key)
+
+-- the digest of a key
 abbrev pub digest_of : Key → List ℕ
-digest_of key = sha1 ((with_length key.bucket_type ++ with_length key.bucket) ++ with_length key.key)
+digest_of key = names_digest key.bucket_type key.bucket key.key
 
 -- the index of a digest: the top `bits` bits of its first two bytes, read as a big-endian number
 abbrev pub index_of : (bits : ℕ) → List ℕ → ℕ

@@ -1,11 +1,10 @@
-//! The digest of a key.
+//! The digest of a key's names.
 ghost use Rattle.std.specs.Prelude.{◌≡◌, ◌++◌, IfSome, List, ℕ};
 ghost use Rattle.sha1.specs.Sha1.{Holds};
-ghost use Rattle.ring_map.specs.Ring.{digest_of, with_length};
+ghost use Rattle.ring_map.specs.Ring.{names_digest, with_length};
 
 use arrayvec::ArrayVec;
 use byteorder::{BigEndian, ByteOrder};
-use riak_msgs::Key;
 use sha1::{DIGEST_LEN, Sha1};
 
 /// How many bytes are hashed at once: of so many SHA-1 makes one block of its own, or two.
@@ -29,14 +28,15 @@ fn push_with_length(message: &mut ArrayVec<u8, MAX_SHORT_LEN>, bytes: &[u8]) -> 
     Some(())
 }
 
-/// The digest of a key whose parts and their lengths come to 64 bytes at most, handed over at once.
-fn short_digest(key: &Key) -> Option<[u8; DIGEST_LEN]>
-    ensures { IfSome result (λ digest. digest ≡ digest_of key.now) }
+/// The digest of names that come with their lengths to 64 bytes at most, handed over at once.
+fn short_digest(bucket_type: &[u8], bucket: &[u8], key: &[u8]) -> Option<[u8; DIGEST_LEN]>
+    ensures { IfSome result (λ digest.
+        digest ≡ names_digest bucket_type.now bucket.now key.now) }
 {
     let mut message = ArrayVec::new();
-    push_with_length(&mut message, key.bucket_type.as_slice())?;
-    push_with_length(&mut message, key.bucket.as_slice())?;
-    push_with_length(&mut message, key.key.as_slice())?;
+    push_with_length(&mut message, bucket_type)?;
+    push_with_length(&mut message, bucket)?;
+    push_with_length(&mut message, key)?;
     Some(Sha1::digest(message.as_slice()))
 }
 
@@ -48,23 +48,24 @@ fn update_with_length(hasher: &mut Sha1, bytes: &[u8])
     hasher.update(bytes);
 }
 
-/// The digest of a key of any length, part by part.
-fn long_digest(key: &Key) -> [u8; DIGEST_LEN]
-    ensures { result ≡ digest_of key.now }
+/// The digest of names of any length, one by one.
+fn long_digest(bucket_type: &[u8], bucket: &[u8], key: &[u8]) -> [u8; DIGEST_LEN]
+    ensures { result ≡ names_digest bucket_type.now bucket.now key.now }
 {
     let mut hasher = Sha1::new();
-    update_with_length(&mut hasher, key.bucket_type.as_slice());
-    update_with_length(&mut hasher, key.bucket.as_slice());
-    update_with_length(&mut hasher, key.key.as_slice());
+    update_with_length(&mut hasher, bucket_type);
+    update_with_length(&mut hasher, bucket);
+    update_with_length(&mut hasher, key);
     hasher.finalize()
 }
 
-/// The digest of a key: SHA-1 over its bucket type, bucket and key, each after its length. It takes no memory.
-pub fn key_digest(key: &Key) -> [u8; DIGEST_LEN]
-    ensures { result ≡ digest_of key.now }
+/// The digest of the key with these names: SHA-1 over its bucket type, bucket and key, each after its length. It
+/// takes no memory.
+pub fn names_digest(bucket_type: &[u8], bucket: &[u8], key: &[u8]) -> [u8; DIGEST_LEN]
+    ensures { result ≡ names_digest bucket_type.now bucket.now key.now }
 {
-    match short_digest(key) {
+    match short_digest(bucket_type, bucket, key) {
         Some(digest) => digest,
-        None => long_digest(key),
+        None => long_digest(bucket_type, bucket, key),
     }
 }

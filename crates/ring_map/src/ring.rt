@@ -1,8 +1,8 @@
 //! A ring of partitions, and the ids of the vnodes that serve them.
 ghost use Rattle.std.specs.Prelude.{◌≡◌, ◌<◌, ◌≤◌, ◌^◌, ◌↔◌, IsSome, IfSome};
-ghost use Rattle.ring_map.specs.Ring.{IsRingSize, digest_of, id_of, index_of};
+ghost use Rattle.ring_map.specs.Ring.{IsRingSize, digest_of, names_digest, id_of, index_of};
 
-use crate::key_digest::key_digest;
+use crate::key_digest::names_digest;
 use byteorder::{BigEndian, ByteOrder};
 use riak_msgs::Key;
 use sha1::DIGEST_LEN;
@@ -66,10 +66,23 @@ impl Ring {
         ensures index { result ≡ index_of self.now (digest_of key.now) }
         ensures below { result < 2 ^ self.now }
     {
+        self.index_of_names(
+            key.bucket_type.as_slice(),
+            key.bucket.as_slice(),
+            key.key.as_slice(),
+        )
+    }
+
+    /// The same of the key with these names: a bucket type, a bucket and a key, which lie where they lie.
+    pub fn index_of_names(&self, bucket_type: &[u8], bucket: &[u8], key: &[u8]) -> u16
+        ensures index { result
+            ≡ index_of self.now (names_digest bucket_type.now bucket.now key.now) }
+        ensures below { result < 2 ^ self.now }
+    {
         if self.index_bits == 0 {
             return 0;
         }
-        self.index_of(&key_digest(key))
+        self.index_of(&names_digest(bucket_type, bucket, key))
     }
 }
 

@@ -129,6 +129,17 @@ impl BucketPlaces {
         }
     }
 
+    /// The same of a key where the names of its bucket and of its own have up to 15 bytes.
+    #[inline(always)]
+    pub(crate) fn get_names(&self, bucket: &ShortName, key: ShortName) -> Option<usize>
+        requires bucket { is_short bucket.now ≡ true }
+        requires key { is_short key ≡ true }
+        ensures place { result ≡ get bucket_key_cmp self.now (bucket.now, key) }
+        ensures ordered { IsOrdered bucket_key_cmp self.now }
+    {
+        self.short.get_name(bucket, key)
+    }
+
     /// Whether there is no key.
     pub(crate) fn is_empty(&self) -> bool
         ensures { IsTrue result ↔ (self.now.entries ≡ []) }

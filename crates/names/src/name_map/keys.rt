@@ -287,6 +287,16 @@ impl KeyPlaces {
         }
     }
 
+    /// The same of a name of up to 15 bytes.
+    #[inline(always)]
+    pub(crate) fn get_name(&self, name: ShortName) -> Option<usize>
+        requires { is_short name ≡ true }
+        ensures place { result ≡ get bytes_cmp self.now name }
+        ensures ordered { IsOrdered bytes_cmp self.now }
+    {
+        get_short(&self.short, name)
+    }
+
     /// Whether there is no key.
     pub(crate) fn is_empty(&self) -> bool
         ensures { IsTrue result ↔ (self.now.entries ≡ []) }

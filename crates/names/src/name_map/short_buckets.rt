@@ -149,6 +149,19 @@ impl ShortBuckets {
         }
     }
 
+    /// The same of a key with a name of up to 15 bytes.
+    #[inline(always)]
+    pub(crate) fn get_name(&self, bucket: &ShortName, key: ShortName) -> Option<usize>
+        requires { is_short key ≡ true }
+        ensures place { result ≡ get bucket_key_cmp self.now (bucket.now, key) }
+        ensures ordered { IsOrdered bucket_key_cmp self.now }
+    {
+        match self.buckets.get(bucket) {
+            Some(keys) => keys.get_name(key),
+            None => None,
+        }
+    }
+
     /// Whether there is no key.
     pub(crate) fn is_empty(&self) -> bool
         ensures { IsTrue result ↔ (self.now.entries ≡ []) }
