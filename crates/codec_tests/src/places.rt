@@ -7,8 +7,8 @@ use crate::places::keys::{
     LONG_BUCKET, LONG_KEY, LONG_TYPE, LONGER_KEY, Names, OTHER_BUCKET, OTHER_KEY, OTHER_TYPE,
     OTHERS, Places, SHORT,
 };
-use names::{FoundKey, KeyRef, NameMap};
-use riak_msgs::{BucketType, Bytes, Key};
+use names::{FoundKey, KeyRef, NameMap, ShortKey};
+use riak_msgs::{BucketType, Bytes, DEFAULT_TYPE, Key};
 use std::alloc::{AllocError, Global};
 
 /// What is done to a map, and what comes of it.
@@ -190,6 +190,14 @@ fn place_of(alloc: Global, map: &NameMap, names: &Names) -> Result<Option<usize>
     }
 }
 
+/// Whether a key of the default type with short names has this place by them too.
+fn has_short_place(map: &NameMap, names: &Names, place: Option<usize>) -> bool {
+    match ShortKey::of_names(names.bucket, names.key) {
+        Some(short) if names.bucket_type == DEFAULT_TYPE => map.get_short(short) == place,
+        _ => true,
+    }
+}
+
 /// The place of each of [`KEYS`].
 fn places_of(alloc: Global, map: &NameMap) -> Result<Places, AllocError> {
     let mut places = [None; 6];
@@ -292,7 +300,9 @@ fn takes(alloc: Global, map: &mut NameMap, step: &Step) -> bool {
     match step {
         Insert(names, place) => insert(alloc, map, names, *place),
         Remove(names, place) => removes(alloc, map, names, *place),
-        Get(names, place) => place_of(alloc, map, names) == Ok(*place),
+        Get(names, place) => {
+            place_of(alloc, map, names) == Ok(*place) && has_short_place(map, names, *place)
+        }
         Holds(places) => has_places(alloc, map, *places),
         Next(after, wanted) => is_next_of(alloc, map, *after, *wanted),
         Clear => {

@@ -3,6 +3,7 @@
 use crate::messages::contents::{ContentRow, V};
 use crate::messages::reading::Asked::{Del, Get, Put};
 use crate::messages::reading::{DEFAULT, Read, reads};
+use riak_msgs::plain_get_names;
 
 /// A value of 130 bytes alone.
 const LONG: ContentRow = ContentRow {
@@ -158,5 +159,57 @@ const PLAIN: &[Read] = &[
 fn plain_requests_and_those_beside_them(rt: HostRuntime) {
     for row in PLAIN {
         assert!(rt; reads(rt.alloc(), row), "{}", row.shows);
+    }
+}
+
+/// The body of a get, and its bucket and key where it is plain.
+struct PlainGet {
+    shows: &'static str,
+    body: &'static [u8],
+    names: Option<(&'static [u8], &'static [u8])>,
+}
+
+const GETS: &[PlainGet] = &[
+    PlainGet {
+        shows: "a bucket and a key",
+        body: b"\x0a\x02bu\x12\x03key",
+        names: Some((b"bu", b"key")),
+    },
+    PlainGet {
+        shows: "an option behind them",
+        body: b"\x0a\x01b\x12\x01k@\x01",
+        names: None,
+    },
+    PlainGet {
+        shows: "the default type behind them",
+        body: b"\x0a\x01b\x12\x01kj\x07default",
+        names: None,
+    },
+    PlainGet {
+        shows: "the key before the bucket",
+        body: b"\x12\x01k\x0a\x01b",
+        names: None,
+    },
+    PlainGet {
+        shows: "a length with a byte more than it needs",
+        body: b"\x0a\x81\x00b\x12\x01k",
+        names: None,
+    },
+    PlainGet {
+        shows: "a key of no bytes",
+        body: b"\x0a\x01b\x12\x00",
+        names: None,
+    },
+    PlainGet {
+        shows: "a key that isn't whole",
+        body: b"\x0a\x01b\x12\x02k",
+        names: None,
+    },
+];
+
+#[test]
+fn names_of_plain_gets(rt: HostRuntime) {
+    for row in GETS {
+        assert!(rt; plain_get_names(row.body) == row.names, "{}", row.shows);
     }
 }
