@@ -10,7 +10,7 @@ ghost use Rattle.clock_store.specs.Contents.{HasWriteRoom, HasSyncRoom};
 ghost use Rattle.clock_store.specs.Keys.{clock_at};
 ghost use Rattle.clock_list.specs.Rows.{entry_of, contents_in, IsRowRoom};
 
-use crate::place::{Place, next_row, place_of};
+use crate::place::{Place, next_row, place_of, stored_short};
 use crate::removal::{first_dead, forget_at};
 use crate::row::{
     Row, new_row, new_sync_row, overwrite_at, reserve_at, reserve_sync_at, sync_at, sync_new,
@@ -18,8 +18,8 @@ use crate::row::{
 };
 use actor_epoch::{Actor, Context};
 use clock_store::{
-    ClockStore, Found, FoundKey, KeyRef, Place as KeyPlace, Reaped, StoredClock, WriteKind,
-    stored_in,
+    ClockStore, Found, FoundKey, KeyRef, Place as KeyPlace, Reaped, ShortKey, StoredClock,
+    WriteKind, stored_in,
 };
 use dvv_set::Clock;
 use riak_msgs::{Content, Key};
@@ -129,6 +129,10 @@ impl ClockStore for ClockList {
 
     fn get(&self, key: &Key) -> Option<&StoredClock> {
         stored_in(self.find(key))
+    }
+
+    fn get_short(&self, key: ShortKey) -> Option<&StoredClock> {
+        stored_short(self.rows.as_slice(), key)
     }
 
     fn find(&self, key: &Key) -> Option<Found<'_>> {

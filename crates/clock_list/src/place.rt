@@ -7,9 +7,12 @@ ghost use Rattle.clock_store.specs.Behind.{is_behind, next_entry};
 ghost use Rattle.clock_store.specs.KeyRefs.{key_after};
 ghost use Rattle.clock_list.specs.Places.{place_in};
 ghost use Rattle.clock_list.specs.Rows.{entry_of};
+ghost use Rattle.std.specs.FinMap.Entries.{find};
+ghost use Rattle.std.specs.Ordering.{is_eq};
+ghost use Rattle.clock_store.specs.Keys.{stored_of};
 
 use crate::row::Row;
-use clock_store::KeyRef;
+use clock_store::{KeyRef, ShortKey, StoredClock};
 use riak_msgs::Key;
 use std::cmp::Ordering;
 
@@ -34,6 +37,26 @@ pub(crate) fn place_of(rows: &[Row], key: &Key) -> Place
         }
     }
     Place::New(rows.len())
+}
+
+/// Whether a key is the one of these short names.
+fn is_key(short: ShortKey, key: &Key) -> bool
+    ensures { result ≡ is_eq (key_cmp short key.now) }
+{
+    short.compare_key(key).reverse().is_eq()
+}
+
+/// What is stored of the key of these short names. It looks through the list from the front.
+pub(crate) fn stored_short(rows: &[Row], short: ShortKey) -> Option<&StoredClock>
+    ensures { option_map (λ stored. stored_of stored.now) result
+        ≡ find key_cmp short (map entry_of rows.now) }
+{
+    for row in rows {
+        if is_key(short, &row.key) {
+            return Some(&row.stored);
+        }
+    }
+    None
 }
 
 /// Whether a key is behind another, where one is given.

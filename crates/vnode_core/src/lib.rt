@@ -91,6 +91,7 @@ mod key_copy;
 mod laid_answer;
 mod laws;
 mod left;
+mod lookup;
 mod ready;
 mod refusal;
 mod replies;
@@ -101,7 +102,7 @@ mod vnode;
 
 pub use ask::{Answer, Ask, Plan, Reaped};
 pub use change::Change;
-pub use clock_store::{FoundKey, KeyRef, OwnActor, StoredClock, given_parts};
+pub use clock_store::{FoundKey, KeyRef, OwnActor, ShortKey, StoredClock, given_parts};
 /// The law of copies between a primary vnode and its fallbacks: what is live of a key at the primary are
 /// its joint siblings.
 pub use copy_laws::copy_joins;
@@ -115,6 +116,7 @@ pub use laws::{
     values_leave_only_covered,
 };
 pub use left::{count_left, is_copied};
+pub use lookup::Lookup;
 pub use refusal::Refusal;
 pub use rw_gate::Kept;
 pub use stored_reply::StoredReply;

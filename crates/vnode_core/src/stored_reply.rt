@@ -6,6 +6,8 @@ ghost use Rattle.actor_epoch.specs.Entries.{entry_of};
 ghost use Rattle.actor_epoch.specs.declared.version.Version.TheVariants.{Two};
 ghost use Rattle.riak_msgs.specs.Encoding.{bytes_field, context_field, repeated_field};
 ghost use Rattle.riak_msgs.specs.Encoding.{shown_message};
+ghost use Rattle.riak_msgs.specs.Requests.{unconditional_get};
+ghost use Rattle.riak_msgs.specs.declared.key.Key.{Key};
 ghost use Rattle.clock_store.specs.Keys.{stored_of};
 ghost use Rattle.std.specs.List.{flat_map};
 ghost use Rattle.vnode_core.specs.Replies.{nothing, unchanged, shown_siblings, shown_context};
@@ -98,6 +100,24 @@ impl<'a> StoredReply<'a> {
         StoredReply {
             siblings: Some(key),
             is_bare: ask.head,
+            context: Some(key),
+            unchanged: false,
+        }
+    }
+
+    /// The answer to a get of a stored key without options.
+    #[inline(always)]
+    #[tactic(auto, unfolding(actor_epoch::specs::Given::context_of))]
+    pub(crate) fn whole(key: &'a StoredClock) -> StoredReply<'a>
+        ensures { (name : Key) → result
+            ≡ siblings_of (stored_of key.now) (unconditional_get name) }
+    {
+        if !key.has_value() {
+            return StoredReply::nothing();
+        }
+        StoredReply {
+            siblings: Some(key),
+            is_bare: false,
             context: Some(key),
             unchanged: false,
         }
