@@ -29,6 +29,10 @@
 //! lends the room ([`Scratch`]), what a long message still lacks is read up to 65,536 bytes at a time,
 //! and never more than that: such a read counts as one for each 4,096 bytes of it.
 //!
+//! A get without options in the form that most clients write is asked of the node by the names that lie
+//! in its message ([`Node::answer_plain_get`]), so no copy of them is made; a node that doesn't answer so
+//! is asked it whole.
+//!
 //! `PlainNode` is a node for one thread: the vnodes of a ring, each key in that of its partition, whose
 //! machine is its step (`specs/PlainNodes`). After each answer to a get, a put or a delete it forgets the
 //! first dead keys of that key's vnode, so many at most. `plain_node_is_register` is the law of its

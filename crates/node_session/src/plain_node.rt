@@ -1,10 +1,10 @@
 //! A node of vnodes on a ring, for one thread.
 
-ghost use Rattle.std.specs.Prelude.{◌≡◌, ◌≤◌, [], IfOk};
+ghost use Rattle.std.specs.Prelude.{◌≡◌, ◌≤◌, ◌<◌, ◌^◌, [], IfOk};
 ghost use Rattle.sibling_register.specs.Answers.{AskGet, AskPut, AskDel};
 ghost use Rattle.vnode_machine.specs.Asks.{get_command, put_command, del_command};
 ghost use Rattle.node_session.specs.PlainNodes.{states_of, AnswersByKey, AreNew, AreOpen};
-ghost use Rattle.node_session.specs.PlainNodes.{IsNewNode};
+ghost use Rattle.node_session.specs.PlainNodes.{IsNewNode, partition_of};
 ghost use Rattle.node_session.specs.Unsent.{PutsReply};
 
 use crate::framed_reply::{FramedReply, put_whole};
@@ -12,12 +12,12 @@ use crate::node::Node;
 use crate::reply_frame::ReplyFrame;
 use crate::scratch::Scratch;
 use crate::vnode_reply::{change_and_sweep, get_and_sweep, show_and_sweep};
-use riak_msgs::{DelAsk, GetAsk, PutAsk, Reply, Request};
+use riak_msgs::{DEFAULT_TYPE, DelAsk, GetAsk, PutAsk, Reply, Request};
 use ring_map::{Ring, vnode_id};
 use std::alloc::{AllocError, Global};
 use std::marker::Model;
 use thiserror::Error;
-use vnode_core::{Ask, Vnode};
+use vnode_core::{Ask, Lookup, ShortKey, Vnode};
 
 /// The first epoch of a vnode of a new run.
 const FIRST_EPOCH: u32 = 1;
@@ -132,16 +132,24 @@ impl PlainNode {
         get_and_sweep(&mut self.vnodes[index], alloc, ask, self.budget)
     }
 
-    /// Answers a get, and puts the frame of the reply.
+    /// Answers a get at the vnode of its key, and puts the frame of the reply.
     #[inline(always)]
-    fn get_into(&mut self, ask: &GetAsk, out: &mut ReplyFrame, scratch: &mut Scratch) -> FramedReply
-        requires { out.old ≡ [] }
-        ensures answers { AnswersByKey self.old (AskGet (get_command ask.now))
+    fn get_into<G: Lookup>(
+        &mut self,
+        index: u16,
+        get: &G,
+        out: &mut ReplyFrame,
+        scratch: &mut Scratch,
+    ) -> FramedReply
+        requires free { out.old ≡ [] }
+        requires index { index ≡ partition_of self.old.index_bits (G.get get.now).key }
+        requires below { index < 2 ^ self.old.index_bits }
+        ensures answers { AnswersByKey self.old (AskGet (get_command (G.get get.now)))
             result.reply self.new }
         ensures put { PutsReply result.reply out.new result.put }
     {
-        let index = usize::from(self.ring.index(&ask.key));
-        show_and_sweep(&mut self.vnodes[index], ask, self.budget, out, scratch)
+        let index = usize::from(index);
+        show_and_sweep(&mut self.vnodes[index], get, self.budget, out, scratch)
     }
 
     /// Answers a put.
@@ -185,7 +193,10 @@ impl Node for PlainNode {
     ) -> FramedReply {
         match request {
             Request::Ping => put_whole(Reply::Ping, out, scratch),
-            Request::Get(ask) => self.get_into(&ask, out, scratch),
+            Request::Get(ask) => {
+                let index = self.ring.index(&ask.key);
+                self.get_into(index, &ask, out, scratch)
+            }
             Request::Put(ask) => {
                 let reply = self.put(alloc, ask);
                 put_whole(reply, out, scratch)
@@ -195,5 +206,19 @@ impl Node for PlainNode {
                 put_whole(reply, out, scratch)
             }
         }
+    }
+
+    #[inline(always)]
+    fn answer_plain_get(
+        &mut self,
+        _alloc: Global,
+        bucket: &[u8],
+        key: &[u8],
+        out: &mut ReplyFrame,
+        scratch: &mut Scratch,
+    ) -> Option<FramedReply> {
+        let short = ShortKey::of_names(bucket, key)?;
+        let index = self.ring.index_of_names(DEFAULT_TYPE, bucket, key);
+        Some(self.get_into(index, &short, out, scratch))
     }
 }

@@ -15,7 +15,7 @@ use crate::reply_frame::ReplyFrame;
 use crate::scratch::Scratch;
 use riak_msgs::{GetAsk, Reply, Text};
 use std::alloc::Global;
-use vnode_core::{Ask, Plan, Vnode, sweep};
+use vnode_core::{Ask, Lookup, Plan, Vnode, sweep};
 
 /// Answers a get.
 fn answer_get(vnode: &Vnode, alloc: Global, ask: &GetAsk) -> Reply
@@ -30,13 +30,19 @@ fn answer_get(vnode: &Vnode, alloc: Global, ask: &GetAsk) -> Reply
 
 /// Answers a get, and puts the frame of the reply from where that lies.
 #[inline(always)]
-fn show(vnode: &Vnode, ask: &GetAsk, out: &mut ReplyFrame, scratch: &mut Scratch) -> FramedReply
+fn show<G: Lookup>(
+    vnode: &Vnode,
+    get: &G,
+    out: &mut ReplyFrame,
+    scratch: &mut Scratch,
+) -> FramedReply
     requires { out.old ≡ [] }
     ensures steps { StepsBy vnode.now.state
-        (outcome vnode.now.state (AskGet (get_command ask.now))) result.reply vnode.now.state }
+        (outcome vnode.now.state (AskGet (get_command (G.get get.now)))) result.reply
+        vnode.now.state }
     ensures put { PutsReply result.reply out.new result.put }
 {
-    put_stored(&vnode.show(ask), out, scratch)
+    put_stored(&get.show(vnode), out, scratch)
 }
 
 /// Answers a put or a delete of a vnode that isn't closed, and makes the change where it is accepted.
@@ -77,20 +83,21 @@ pub(crate) fn get_and_sweep(vnode: &mut Vnode, alloc: Global, ask: &GetAsk, budg
 
 /// Answers a get, puts the frame of the reply, and forgets the vnode's first dead keys, so many at most.
 #[inline(always)]
-pub(crate) fn show_and_sweep(
+pub(crate) fn show_and_sweep<G: Lookup>(
     vnode: &mut Vnode,
-    ask: &GetAsk,
+    get: &G,
     budget: u32,
     out: &mut ReplyFrame,
     scratch: &mut Scratch,
 ) -> FramedReply
     requires { out.old ≡ [] }
     ensures steps { AnswersAndSweeps budget vnode.old.state
-        (outcome vnode.old.state (AskGet (get_command ask.now))) result.reply vnode.new.state }
+        (outcome vnode.old.state (AskGet (get_command (G.get get.now)))) result.reply
+        vnode.new.state }
     ensures closed { vnode.new.state.closed ≡ vnode.old.state.closed }
     ensures put { PutsReply result.reply out.new result.put }
 {
-    let framed = show(vnode, ask, out, scratch);
+    let framed = show(vnode, get, out, scratch);
     forget_first(vnode, budget);
     framed
 }
