@@ -3,12 +3,12 @@ use Rattle.std.specs.Prelude.{◌≡◌, ℕ, take, drop}
 use Rattle.riak_msgs.specs.declared.key.Key.{Key}
 use Rattle.riak_msgs.specs.Requests.{default_key}
 use Rattle.ring_map.specs.Ring.{digest_of, index_of}
-use Rattle.gate_node.specs.declared.short_key.ShortKey.{ShortKey}
+use Rattle.gate_node.specs.declared.cached_key.CachedKey.{CachedKey}
 use Rattle.gate_node.specs.declared.partition_cache.Entry.{Entry}
 
 -- the key of a bucket and a name of the default type, which lie one behind the other
-abbrev pub key_in : ShortKey → Key
-key_in short = default_key (take short.bucket_len short.bytes) (take short.key_len (drop short.bucket_len short.bytes))
+abbrev pub key_in : CachedKey → Key
+key_in cached = default_key (take cached.bucket_len cached.bytes) (take cached.key_len (drop cached.bucket_len cached.bytes))
 
 -- an entry has the index of its key's partition
 abbrev pub IsIndexed : ℕ → Entry → Type 0

@@ -22,16 +22,17 @@ use std::sync::Wait;
 use vnode_core::{Answer, Ask, Refusal, Vnode};
 
 /// Shows a vnode's state to a get, or the number of its close.
-fn show_open<A: GetAnswer>(
+fn show_open<G, A: GetAnswer<G>>(
     vnode: &Vnode,
     alloc: Global,
     reserve: ReserveOf<'_>,
-    get: &GetAsk,
+    get: &G,
     frame: &mut A::Frame,
     room: &mut A::Room,
 ) -> Result<A, u64>
     requires { A.is_free frame.old }
-    ensures shown { IfOk result (λ reply. ShowsOpen get.now (A.reply reply) vnode.now.state) }
+    ensures shown { IfOk result (λ reply.
+        ShowsOpen (A.get get.now) (A.reply reply) vnode.now.state) }
     ensures put { IfOk result (λ reply. A.is_put reply frame.new) }
     ensures closed { IfErr result (λ number. vnode.now.state.closed ≡ Some number) }
     ensures free { OnErr result (A.is_free frame.new) }
@@ -43,11 +44,11 @@ fn show_open<A: GetAnswer>(
 }
 
 /// Answers a get, under a right to read, behind the turnstile; or gives the number of the vnode's close.
-fn answer_get_open<W: Wait, T: Turnstile, A: GetAnswer>(
+fn answer_get_open<W: Wait, T: Turnstile, G, A: GetAnswer<G>>(
     call: Call<'_, W, T>,
     gate: &Gate<Vnode>,
     pass: &mut Pass<Vnode>,
-    get: &GetAsk,
+    get: &G,
     frame: &mut A::Frame,
     room: &mut A::Room,
 ) -> Result<A, u64>
@@ -56,7 +57,7 @@ fn answer_get_open<W: Wait, T: Turnstile, A: GetAnswer>(
     ensures gate { pass.new.gate ≡ pass.old.gate }
     ensures more { IsPrefix pass.old.prefix pass.new.prefix }
     ensures shown { IfOk result (λ reply.
-        IsShownOpen get.now pass.old pass.new (A.reply reply)) }
+        IsShownOpen (A.get get.now) pass.old pass.new (A.reply reply)) }
     ensures put { IfOk result (λ reply. A.is_put reply frame.new) }
     ensures closed { IfErr result (λ number. IsClosedWith number pass.old pass.new) }
     ensures free { OnErr result (A.is_free frame.new) }
@@ -65,7 +66,7 @@ fn answer_get_open<W: Wait, T: Turnstile, A: GetAnswer>(
     call.shared.enter(call.turnstile);
     match right.look(pass) {
         Ok(vnode) => {
-            let found = show_open::<A>(vnode, call.alloc, call.reserve, get, frame, room);
+            let found = show_open::<G, A>(vnode, call.alloc, call.reserve, get, frame, room);
             right.release();
             found
         }
@@ -128,11 +129,11 @@ fn answer_change_open<W: Wait, T: Turnstile>(
 }
 
 /// Answers a get at a fallback by a pass of it, or gives the number of its close, which the pass keeps.
-fn get_by<W: Wait, T: Turnstile, A: GetAnswer>(
+fn get_by<W: Wait, T: Turnstile, G, A: GetAnswer<G>>(
     call: Call<'_, W, T>,
     gate: &Gate<Vnode>,
     kept: &mut FallbackPass,
-    get: &GetAsk,
+    get: &G,
     frame: &mut A::Frame,
     room: &mut A::Room,
 ) -> Result<(A, Option<Quantity>), u64>
@@ -140,7 +141,7 @@ fn get_by<W: Wait, T: Turnstile, A: GetAnswer>(
     requires seen { IfSome kept.old.closed (HasSeenClose kept.old.pass) }
     requires free { A.is_free frame.old }
     ensures answers { IfOk result (λ a. AnswersBy kept.old kept.new
-        (λ p q. GetsOpen get.now p q (A.reply a.0) a.1)) }
+        (λ p q. GetsOpen (A.get get.now) p q (A.reply a.0) a.1)) }
     ensures put { IfOk result (λ a. A.is_put a.0 frame.new) }
     ensures closed { IfErr result (λ number. IsClosedBy number kept.old kept.new) }
     ensures free { OnErr result (A.is_free frame.new) }
@@ -148,7 +149,7 @@ fn get_by<W: Wait, T: Turnstile, A: GetAnswer>(
     if let Some(number) = kept.closed {
         return Err(number);
     }
-    match answer_get_open::<W, T, A>(call, gate, &mut kept.pass, get, frame, room) {
+    match answer_get_open::<W, T, G, A>(call, gate, &mut kept.pass, get, frame, room) {
         Ok(reply) => {
             let quantity = Some(reply.quantity());
             Ok((reply, quantity))
@@ -188,25 +189,25 @@ fn change_by<W: Wait, T: Turnstile>(
 
 /// Answers a get at the fallback of a partition, by the pass of it that is kept, and what that is counted as; or gives the number of the
 /// fallback's close.
-pub(crate) fn get_diverted<W: Wait, T: Turnstile, A: GetAnswer>(
+pub(crate) fn get_diverted<W: Wait, T: Turnstile, G, A: GetAnswer<G>>(
     call: Call<'_, W, T>,
     fallback: &Fallback,
     kept: &mut Option<FallbackPass>,
-    get: &GetAsk,
+    get: &G,
     frame: &mut A::Frame,
     room: &mut A::Room,
 ) -> Result<(A, Option<Quantity>), u64>
     requires fits { FitsPartition (Some fallback.now) kept.old }
     requires free { A.is_free frame.old }
     ensures answers { IfOk result (λ a. AnswersAtFallback fallback.now kept.old kept.new
-        (λ p q. GetsOpen get.now p q (A.reply a.0) a.1)) }
+        (λ p q. GetsOpen (A.get get.now) p q (A.reply a.0) a.1)) }
     ensures put { IfOk result (λ a. A.is_put a.0 frame.new) }
     ensures closed { IfErr result (FindsClosed fallback.now kept.old kept.new) }
     ensures free { OnErr result (A.is_free frame.new) }
 {
     renew(kept, fallback);
     match kept {
-        Some(kept) => get_by::<W, T, A>(call, &fallback.gate, kept, get, frame, room),
+        Some(kept) => get_by::<W, T, G, A>(call, &fallback.gate, kept, get, frame, room),
         None => unreachable!(),
     }
 }

@@ -28,11 +28,11 @@ pub(crate) struct Answered<A> {
 
 /// Answers a get, under a right to read, behind the turnstile.
 #[inline(always)]
-fn answer_get<W: Wait, T: Turnstile, A: GetAnswer>(
+fn answer_get<W: Wait, T: Turnstile, G, A: GetAnswer<G>>(
     call: Call<'_, W, T>,
     gate: &Gate<Vnode>,
     pass: &mut Pass<Vnode>,
-    get: &GetAsk,
+    get: &G,
     frame: &mut A::Frame,
     room: &mut A::Room,
 ) -> A
@@ -40,7 +40,7 @@ fn answer_get<W: Wait, T: Turnstile, A: GetAnswer>(
     requires free { A.is_free frame.old }
     ensures gate { pass.new.gate ≡ pass.old.gate }
     ensures more { IsPrefix pass.old.prefix pass.new.prefix }
-    ensures shown { IsShownGet get.now pass.old pass.new (A.reply result) }
+    ensures shown { IsShownGet (A.get get.now) pass.old pass.new (A.reply result) }
     ensures put { A.is_put result frame.new }
 {
     let right = gate.read(call.rt);
@@ -197,11 +197,11 @@ fn reap_allowed<W: Wait>(
 
 /// Answers a get, and then forgets the vnode's first dead keys, as many as the budget allows.
 #[inline(always)]
-pub(crate) fn get_and_reap<W: Wait, T: Turnstile, A: GetAnswer>(
+pub(crate) fn get_and_reap<W: Wait, T: Turnstile, G, A: GetAnswer<G>>(
     call: Call<'_, W, T>,
     gate: &Gate<Vnode>,
     pass: &mut Pass<Vnode>,
-    get: &GetAsk,
+    get: &G,
     frame: &mut A::Frame,
     room: &mut A::Room,
 ) -> Answered<A>
@@ -209,10 +209,10 @@ pub(crate) fn get_and_reap<W: Wait, T: Turnstile, A: GetAnswer>(
     requires free { A.is_free frame.old }
     ensures gate { pass.new.gate ≡ pass.old.gate }
     ensures steps { AnswersAndReaps call.entry.shared.now.budget result.reaps
-        (λ p q. Gets get.now p q (A.reply result.reply) result.quantity) pass.old pass.new }
+        (λ p q. Gets (A.get get.now) p q (A.reply result.reply) result.quantity) pass.old pass.new }
     ensures put { A.is_put result.reply frame.new }
 {
-    let reply = answer_get::<W, T, A>(call, gate, pass, get, frame, room);
+    let reply = answer_get::<W, T, G, A>(call, gate, pass, get, frame, room);
     let quantity = Some(reply.quantity());
     let shared = call.shared;
     let reaps = reap_allowed(call.rt, call.alloc, gate, pass, shared.budget);

@@ -10,14 +10,18 @@ use node_session::{FramedReply, ReplyFrame, Scratch, put_error, put_stored};
 use riak_msgs::{GetAsk, Reply, Text};
 use stats_book::Quantity;
 use std::alloc::Global;
-use vnode_core::{StoredReply, Vnode};
+use vnode_core::{Lookup, StoredReply, Vnode};
 
 /// The reply to a get as it is handed on.
-pub(crate) trait GetAnswer: Drop {
+pub(crate) trait GetAnswer<G>: Drop {
     ghost use Rattle.std.specs.Prelude.{◌≡◌};
+    ghost use Rattle.riak_msgs.specs.declared.GetAsk.{GetAsk};
     ghost use Rattle.riak_msgs.specs.declared.Reply.{Reply};
     ghost use Rattle.riak_msgs.specs.declared.Reply.TheVariants.{Error};
     ghost use Rattle.gate_node.specs.Asked.{RepliesToGet, get_quantity};
+
+    // What is asked.
+    ghost get: { G → GetAsk };
 
     /// Where it is put.
     type Frame;
@@ -39,12 +43,12 @@ pub(crate) trait GetAnswer: Drop {
         vnode: &Vnode,
         alloc: Global,
         reserve: ReserveOf<'_>,
-        get: &GetAsk,
+        asked: &G,
         frame: &mut Self::Frame,
         room: &mut Self::Room,
     ) -> Self
         requires { is_free frame.old }
-        ensures shows { RepliesToGet get.now (reply result) vnode.now.state }
+        ensures shows { RepliesToGet (get asked.now) (reply result) vnode.now.state }
         ensures put { is_put result frame.new };
 
     /// Answers by an error.
@@ -72,7 +76,9 @@ fn show_once(vnode: &Vnode, alloc: Global, get: &GetAsk) -> Reply
     }
 }
 
-impl GetAnswer for Reply {
+impl GetAnswer<GetAsk> for Reply {
+    ghost get = { λ get. get };
+
     type Frame = NoFrame;
 
     type Room = NoFrame;
@@ -138,7 +144,9 @@ fn put_shown(
     framed
 }
 
-impl GetAnswer for FramedGet {
+impl<G: Lookup> GetAnswer<G> for FramedGet {
+    ghost get = { G.get };
+
     type Frame = ReplyFrame;
 
     type Room = Scratch;
@@ -157,12 +165,12 @@ impl GetAnswer for FramedGet {
         vnode: &Vnode,
         _alloc: Global,
         reserve: ReserveOf<'_>,
-        get: &GetAsk,
+        asked: &G,
         frame: &mut ReplyFrame,
         scratch: &mut Scratch,
     ) -> FramedGet {
         FramedGet {
-            framed: put_shown(&vnode.show(get), reserve, frame, scratch),
+            framed: put_shown(&asked.show(vnode), reserve, frame, scratch),
             quantity: Quantity::Gets,
         }
     }

@@ -21,18 +21,18 @@ use std::sync::Wait;
 impl<'a, W: Wait, T: Turnstile, C: CountReplies> GateNode<'a, W, T, C> {
     /// Answers a get at the primary of a partition.
     #[inline(always)]
-    fn get_at_primary<A: GetAnswer>(
+    fn get_at_primary<G, A: GetAnswer<G>>(
         &mut self,
         alloc: Global,
         index: usize,
-        get: &GetAsk,
+        get: &G,
         frame: &mut A::Frame,
         room: &mut A::Room,
     ) -> A
         requires within { index < 2 ^ self.old.shared.index_bits }
         requires free { A.is_free frame.old }
         ensures answers { AtIndex index self.old self.new
-            (λ p q. Gets get.now p q (A.reply result)) }
+            (λ p q. Gets (A.get get.now) p q (A.reply result)) }
         ensures put { A.is_put result frame.new }
     {
         let call = self.call(alloc);
@@ -40,13 +40,13 @@ impl<'a, W: Wait, T: Turnstile, C: CountReplies> GateNode<'a, W, T, C> {
         let gates = shared.handoff.gates();
         let gate = &gates[index];
         let pass = &mut self.primaries[index];
-        let answered = get_and_reap::<W, T, A>(call, gate, pass, get, frame, room);
+        let answered = get_and_reap::<W, T, G, A>(call, gate, pass, get, frame, room);
         self.counter.count_answer(answered.quantity, answered.reaps);
         answered.reply
     }
 
     /// Answers a get by an error that changes nothing.
-    fn get_error<A: GetAnswer>(&mut self, text: Text, frame: &mut A::Frame) -> A
+    fn get_error<G, A: GetAnswer<G>>(&mut self, text: Text, frame: &mut A::Frame) -> A
         requires { A.is_free frame.old }
         ensures answers { AnswersError text self.old (A.reply result) self.new }
         ensures put { A.is_put result frame.new }
@@ -56,12 +56,12 @@ impl<'a, W: Wait, T: Turnstile, C: CountReplies> GateNode<'a, W, T, C> {
     }
 
     /// Answers a get at the fallback of a partition, or gives the number of its close.
-    fn get_at_fallback<A: GetAnswer>(
+    fn get_at_fallback<G, A: GetAnswer<G>>(
         &mut self,
         alloc: Global,
         index: usize,
         fallback: &Fallback,
-        get: &GetAsk,
+        get: &G,
         frame: &mut A::Frame,
         room: &mut A::Room,
     ) -> Result<A, u64>
@@ -70,17 +70,17 @@ impl<'a, W: Wait, T: Turnstile, C: CountReplies> GateNode<'a, W, T, C> {
         requires new { IsFallback self.old.shared.run index fallback.now }
         requires free { A.is_free frame.old }
         ensures answers { IfOk result (λ reply.
-            AsksFallback index self.old (A.reply reply) self.new (GetsOpen get.now)) }
+            AsksFallback index self.old (A.reply reply) self.new (GetsOpen (A.get get.now))) }
         ensures put { IfOk result (λ reply. A.is_put reply frame.new) }
         ensures closed { IfErr result (λ number. AtClosed index number self.old self.new) }
         ensures free { OnErr result (A.is_free frame.new) }
     {
         let call = self.call(alloc);
         if !make_places(alloc, self.size, &mut self.fallbacks) {
-            return Ok(self.get_error::<A>(Text::NoMemory, frame));
+            return Ok(self.get_error::<G, A>(Text::NoMemory, frame));
         }
         let kept = &mut self.fallbacks[index];
-        match get_diverted::<W, T, A>(call, fallback, kept, get, frame, room) {
+        match get_diverted::<W, T, G, A>(call, fallback, kept, get, frame, room) {
             Ok((reply, quantity)) => {
                 self.counter.count_answer(quantity, 0);
                 Ok(reply)
@@ -90,36 +90,36 @@ impl<'a, W: Wait, T: Turnstile, C: CountReplies> GateNode<'a, W, T, C> {
     }
 
     /// Answers a get at the primary of a partition whose fallback is closed with this number.
-    fn get_returned<A: GetAnswer>(
+    fn get_returned<G, A: GetAnswer<G>>(
         &mut self,
         alloc: Global,
         index: usize,
         number: u64,
-        get: &GetAsk,
+        get: &G,
         frame: &mut A::Frame,
         room: &mut A::Room,
     ) -> A
         requires within { index < 2 ^ self.old.shared.index_bits }
         requires free { A.is_free frame.old }
         ensures answers { AtIndexFrom index number self.old (A.reply result) self.new
-            (Gets get.now) }
+            (Gets (A.get get.now)) }
         ensures put { A.is_put result frame.new }
     {
         if self.catch_up(index, number) {
-            self.get_at_primary::<A>(alloc, index, get, frame, room)
+            self.get_at_primary::<G, A>(alloc, index, get, frame, room)
         } else {
-            self.get_error::<A>(Text::Moved, frame)
+            self.get_error::<G, A>(Text::Moved, frame)
         }
     }
 
     /// Answers a get at a partition with a fallback: at that, or at the primary where it is closed.
     #[inline(never)]
-    fn get_at_diverted<A: GetAnswer>(
+    fn get_at_diverted<G, A: GetAnswer<G>>(
         &mut self,
         alloc: Global,
         index: usize,
         fallback: &Fallback,
-        get: &GetAsk,
+        get: &G,
         frame: &mut A::Frame,
         room: &mut A::Room,
     ) -> A
@@ -129,36 +129,36 @@ impl<'a, W: Wait, T: Turnstile, C: CountReplies> GateNode<'a, W, T, C> {
         requires new { IsFallback self.old.shared.run index fallback.now }
         requires free { A.is_free frame.old }
         ensures answers { AtDiverted index self.old (A.reply result) self.new
-            (Gets get.now) (GetsOpen get.now) }
+            (Gets (A.get get.now)) (GetsOpen (A.get get.now)) }
         ensures put { A.is_put result frame.new }
     {
-        match self.get_at_fallback::<A>(alloc, index, fallback, get, frame, room) {
+        match self.get_at_fallback::<G, A>(alloc, index, fallback, get, frame, room) {
             Ok(reply) => reply,
-            Err(number) => self.get_returned::<A>(alloc, index, number, get, frame, room),
+            Err(number) => self.get_returned::<G, A>(alloc, index, number, get, frame, room),
         }
     }
 
     /// Answers a get, at the primary of a partition that has no fallback.
     #[inline(always)]
-    pub(crate) fn get<A: GetAnswer>(
+    pub(crate) fn get<G, A: GetAnswer<G>>(
         &mut self,
         alloc: Global,
         index: usize,
-        get: &GetAsk,
+        get: &G,
         frame: &mut A::Frame,
         room: &mut A::Room,
     ) -> A
         requires within { index < 2 ^ self.old.shared.index_bits }
         requires free { A.is_free frame.old }
         ensures answers { AnswersAtPartition index self.old (A.reply result) self.new
-            (Gets get.now) (GetsOpen get.now) }
+            (Gets (A.get get.now)) (GetsOpen (A.get get.now)) }
         ensures put { A.is_put result frame.new }
     {
         let shared = self.shared;
         match shared.handoff.fallback(index) {
-            None => self.get_at_primary::<A>(alloc, index, get, frame, room),
+            None => self.get_at_primary::<G, A>(alloc, index, get, frame, room),
             Some(fallback) => {
-                self.get_at_diverted::<A>(alloc, index, fallback, get, frame, room)
+                self.get_at_diverted::<G, A>(alloc, index, fallback, get, frame, room)
             }
         }
     }

@@ -64,7 +64,8 @@
 //! no writer. Memory is taken by the vnode, by what a thread keeps back ([`Reserve`]), by
 //! `PartitionCache::new`, and by `Shared::new`, `Passes::new` and `tallies_of`. The partition of a
 //! key costs its digest, or a look at what the thread remembers ([`PartitionCache`]), a tenth of
-//! that. Where nothing is diverted a request looks at one word more, whether its partition has a
+//! that. A get without options of short names is answered by the names in its message, and takes no
+//! memory. Where nothing is diverted a request looks at one word more, whether its partition has a
 //! fallback, and a caller's passes have a place for the pass of each partition's fallback. After
 //! the end of a diversion a caller takes a right at the closed fallback once, and one at the
 //! primary to see that the copies are there, where it hadn't seen as many events; later requests
@@ -87,7 +88,7 @@
 //! replies stand for. A put that finds no whole `Reserve` is refused by the first check that holds,
 //! and by `no memory` if none does.
 //!
-//! By the calls of `Shared`, `Passes` and `GateNode`, `PartitionCache::index`, `tallies_of`; laws
+//! By the calls of `Shared`, `Passes` and `GateNode`, `PartitionCache`, `tallies_of`; laws
 //! `positions_are_legal`, `replies_are_at_positions`, `passes_outlive_diversions`,
 //! `sessions_keep_their_gates`, `sessions_count_their_replies`, `gate_node_is_register`,
 //! `plain_replies_are_legal`.
@@ -104,6 +105,7 @@
 //! - Of what use a worker's `Reserve` is: `scripts/maintain/try-full` alone shows it.
 #![tactic(auto)]
 
+mod cached_key;
 mod call;
 mod diverted;
 mod fault;
@@ -120,7 +122,6 @@ mod replies;
 mod requests;
 mod reserve;
 mod shared;
-mod short_key;
 mod tallies;
 mod turnstile;
 

@@ -82,7 +82,10 @@ impl<'a, W: Wait, T: Turnstile, C: CountReplies> Model for GateNode<'a, W, T, C>
 
     ghost view = { λ n. record {
       shared = n.shared.now;
-      passes = record { primaries = n.primaries.items; fallbacks = places_of n.size n.fallbacks.items };
+      passes = record {
+        primaries = n.primaries.items;
+        fallbacks = places_of n.size n.fallbacks.items;
+      };
       count = C.count n.counter;
     } };
 

@@ -1,21 +1,24 @@
 //! The partitions of the keys that a thread met.
-ghost use Rattle.std.specs.Prelude.{◌≡◌, ◌<◌, ◌^◌, IfSome, IfOk};
+ghost use Rattle.std.specs.Prelude.{◌≡◌, ◌<◌, ◌^◌, IfSome, IfOk, IsTrue};
 ghost use Rattle.std.specs.List.{All};
 ghost use Rattle.ring_map.specs.Ring.{digest_of, index_of};
+ghost use Rattle.riak_msgs.specs.BucketTypes.{default_type};
+ghost use Rattle.riak_msgs.specs.Requests.{default_key};
 ghost use Rattle.gate_node.specs.PartitionCache.{IsIndexed, key_in};
 
-use crate::short_key::ShortKey;
+use crate::cached_key::CachedKey;
 use crossbeam_utils::CachePadded;
-use riak_msgs::{BucketType, Bytes, Key};
+use riak_msgs::{BucketType, Bytes, DEFAULT_TYPE, Key};
 use ring_map::Ring;
 use std::alloc::{AllocError, Global};
+use std::cmp::Ordering;
 use std::marker::Model;
 use std::sync::Mutex;
 
 /// A key, and the partition that it lies in.
 #[derive(Clone, Copy)]
 struct Entry {
-    key: ShortKey,
+    key: CachedKey,
     index: u16,
 }
 
@@ -48,8 +51,19 @@ fn first_entry(alloc: Global, ring: &Ring) -> Entry
         key: Bytes::new(alloc),
     };
     Entry {
-        key: ShortKey::empty(),
+        key: CachedKey::empty(),
         index: ring.index(&key),
+    }
+}
+
+/// Whether a bucket type is the default.
+#[inline(always)]
+fn is_default(bucket_type: &BucketType) -> bool
+    ensures { IsTrue result → bucket_type.now ≡ default_type }
+{
+    match bucket_type.cmp(&BucketType::default_type()) {
+        Ordering::Equal => true,
+        _ => false,
     }
 }
 
@@ -87,7 +101,7 @@ impl Entries {
 
     /// The partition of a key, where it is the last that was remembered in this place.
     #[inline(always)]
-    fn find(&self, place: usize, key: &ShortKey) -> Option<u16>
+    fn find(&self, place: usize, key: &CachedKey) -> Option<u16>
         ensures { IfSome result (λ index. index ≡ index_of self.now (digest_of (key_in key.now))) }
     {
         let entry = self.places.get(place)?;
@@ -100,7 +114,7 @@ impl Entries {
 
     /// Remembers the partition of a key in a place, and forgets what was there.
     #[inline(always)]
-    fn remember(&mut self, place: usize, key: ShortKey, index: u16)
+    fn remember(&mut self, place: usize, key: CachedKey, index: u16)
         requires { index ≡ index_of self.old (digest_of (key_in key)) }
         ensures { self.new ≡ self.old }
     {
@@ -109,21 +123,21 @@ impl Entries {
         }
     }
 
-    /// The partition of a key, remembered from then on where the key is short.
+    /// The partition of a key of the default bucket type, by its names: remembered from then on where they are short.
     #[inline(always)]
-    fn index(&mut self, key: &Key) -> u16
-        ensures index { result ≡ index_of self.old (digest_of key.now) }
+    fn index_of_names(&mut self, bucket: &[u8], key: &[u8]) -> u16
+        ensures index { result ≡ index_of self.old (digest_of (default_key bucket.now key.now)) }
         ensures below { result < 2 ^ self.old }
     {
-        let Some(short) = ShortKey::of(key) else {
-            return self.ring.index(key);
+        let Some(cached) = CachedKey::of_names(bucket, key) else {
+            return self.ring.index_of_names(DEFAULT_TYPE, bucket, key);
         };
-        let place = place_of(short.hash(), self.places.len());
-        if let Some(index) = self.find(place, &short) {
+        let place = place_of(cached.hash(), self.places.len());
+        if let Some(index) = self.find(place, &cached) {
             return index;
         }
-        let index = self.ring.index(key);
-        self.remember(place, short, index);
+        let index = self.ring.index_of_names(DEFAULT_TYPE, bucket, key);
+        self.remember(place, cached, index);
         index
     }
 }
@@ -150,11 +164,24 @@ impl PartitionCache {
         ensures index { result ≡ index_of ring.now (digest_of key.now) }
         ensures below { result < 2 ^ ring.now }
     {
-        if let Some(mut entries) = self.entries.try_lock() {
-            if entries.ring == *ring {
-                return entries.index(key);
-            }
+        if is_default(&key.bucket_type) {
+            return self.index_of_names(ring, key.bucket.as_slice(), key.key.as_slice());
         }
         ring.index(key)
+    }
+
+    /// The same of the key of the default bucket type with these names.
+    #[inline(always)]
+    pub fn index_of_names(&self, ring: &Ring, bucket: &[u8], key: &[u8]) -> u16
+        ensures index { result
+            ≡ index_of ring.now (digest_of (default_key bucket.now key.now)) }
+        ensures below { result < 2 ^ ring.now }
+    {
+        if let Some(mut entries) = self.entries.try_lock() {
+            if entries.ring == *ring {
+                return entries.index_of_names(bucket, key);
+            }
+        }
+        ring.index_of_names(DEFAULT_TYPE, bucket, key)
     }
 }

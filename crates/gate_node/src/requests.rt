@@ -7,11 +7,11 @@ use crate::node::GateNode;
 use crate::reserve::ReserveOf;
 use crate::turnstile::Turnstile;
 use node_session::{FramedReply, Node, ReplyFrame, Scratch, put_reply};
-use riak_msgs::{Reply, Request};
+use riak_msgs::{GetAsk, Reply, Request};
 use stats_book::CountReplies;
 use std::alloc::Global;
 use std::sync::Wait;
-use vnode_core::Ask;
+use vnode_core::{Ask, ShortKey};
 
 /// Puts the frame of a reply, and lets it go: once more where memory was refused, and the thread gave up what it keeps back.
 #[inline(always)]
@@ -42,7 +42,7 @@ impl<'a, W: Wait, T: Turnstile, C: CountReplies> Node for GateNode<'a, W, T, C> 
             Request::Ping => Reply::Ping,
             Request::Get(get) => {
                 let index = self.index(&get.key);
-                self.get::<Reply>(alloc, index, &get, &mut NoFrame, &mut NoFrame)
+                self.get::<GetAsk, Reply>(alloc, index, &get, &mut NoFrame, &mut NoFrame)
             }
             Request::Put(put) => {
                 let index = self.index(&put.key);
@@ -67,7 +67,7 @@ impl<'a, W: Wait, T: Turnstile, C: CountReplies> Node for GateNode<'a, W, T, C> 
             Request::Ping => put_whole(self.reserve, Reply::Ping, out, scratch),
             Request::Get(get) => {
                 let index = self.index(&get.key);
-                self.get::<FramedGet>(alloc, index, &get, out, scratch)
+                self.get::<GetAsk, FramedGet>(alloc, index, &get, out, scratch)
                     .framed
             }
             Request::Put(put) => {
@@ -81,6 +81,21 @@ impl<'a, W: Wait, T: Turnstile, C: CountReplies> Node for GateNode<'a, W, T, C> 
                 put_whole(self.reserve, reply, out, scratch)
             }
         }
+    }
+
+    #[inline(always)]
+    fn answer_plain_get(
+        &mut self,
+        alloc: Global,
+        bucket: &[u8],
+        key: &[u8],
+        out: &mut ReplyFrame,
+        scratch: &mut Scratch,
+    ) -> Option<FramedReply> {
+        let short = ShortKey::of_names(bucket, key)?;
+        let index = self.index_of_names(bucket, key);
+        let answered = self.get::<ShortKey, FramedGet>(alloc, index, &short, out, scratch);
+        Some(answered.framed)
     }
 
     fn make_room(&self, _alloc: Global) -> bool {

@@ -35,7 +35,7 @@ invariant_of-self-in-Ok g c =
     let within = kept_place inside c.args.self.now c.args.index c.args.fallback.now is of c.requires.diverted in
     rw (places_set c.self.inside.size c.args.index made c.get_diverted.new.kept within)
     (still_answered inside c.args.self.now c.args.index c.args.fallback.now is of c.requires.diverted c.index_mut-kept.result.now c.index_mut-kept.ensures.value c.get_diverted.new.kept
-    (λ p q. GetsOpen c.args.get.now p q (g.A.GetAnswer.reply c.in-Ok.reply) c.in-Ok.quantity) c.in-Ok.ensures.answers)
+    (λ p q. GetsOpen (g.A.GetAnswer.get c.args.get.now) p q (g.A.GetAnswer.reply c.in-Ok.reply) c.in-Ok.quantity) c.in-Ok.ensures.answers)
 
 pub invariant_of-self-in-Err : goal.invariant_of-self-in-Err
 invariant_of-self-in-Err g c =
@@ -61,7 +61,7 @@ returns-in-Ok-clause-answers g c =
     let within = kept_place inside c.args.self.now c.args.index c.args.fallback.now is of c.requires.diverted in
     rw (places_set c.self.inside.size c.args.index made c.get_diverted.new.kept within)
     (inl (answered_there inside c.args.self.now c.args.index c.args.fallback.now is of c.requires.diverted c.index_mut-kept.result.now c.index_mut-kept.ensures.value c.get_diverted.new.kept
-    c.requires.new (λ p q quantity. GetsOpen c.args.get.now p q (g.A.GetAnswer.reply c.in-Ok.reply) quantity) c.in-Ok.quantity (g.C.CountReplies.count c.count_answer.new.self) c.in-Ok.ensures.answers c.count_answer.ensures))
+    c.requires.new (λ p q quantity. GetsOpen (g.A.GetAnswer.get c.args.get.now) p q (g.A.GetAnswer.reply c.in-Ok.reply) quantity) c.in-Ok.quantity (g.C.CountReplies.count c.count_answer.new.self) c.in-Ok.ensures.answers c.count_answer.ensures))
 
 pub returns-in-Err-clause-closed : goal.returns-in-Err-clause-closed
 returns-in-Err-clause-closed g c =

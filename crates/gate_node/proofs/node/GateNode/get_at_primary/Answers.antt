@@ -23,8 +23,8 @@ returns-clause-answers g c =
     let asked = subst (λ (n : NodeOverGates). c.args.index < 2 ^ n.shared.index_bits) (sym c.self.view_is) c.requires.within in
     let within = within_passes primaries shared.gates (2 ^ shared.index_bits) c.args.index c.self.invariant.primaries size asked in
     let is = c.call-call.ensures.shared ∙ ap (λ (n : NodeOverGates). n.shared) (sym c.self.view_is) in
-    let steps = subst (λ (s : Gates). AnswersAndReaps s.budget c.get_and_reap-answered.result.reaps (λ p q. Gets c.args.get.now p q (g.A.GetAnswer.reply c.get_and_reap-answered.result.reply) c.get_and_reap-answered.result.quantity) c.index_mut-pass.result.now c.get_and_reap-answered.new.pass) is c.get_and_reap-answered.ensures.steps in
+    let steps = subst (λ (s : Gates). AnswersAndReaps s.budget c.get_and_reap-answered.result.reaps (λ p q. Gets (g.A.GetAnswer.get c.args.get.now) p q (g.A.GetAnswer.reply c.get_and_reap-answered.result.reply) c.get_and_reap-answered.result.quantity) c.index_mut-pass.result.now c.get_and_reap-answered.new.pass) is c.get_and_reap-answered.ensures.steps in
     rw (← c.self.view_is)
     (at_index (record { shared = shared; passes = record { primaries = primaries; fallbacks = places_of c.self.inside.size c.self.inside.fallbacks.items }; count = g.C.CountReplies.count c.self.inside.counter }) c.args.index c.index_mut-pass.result.now c.get_and_reap-answered.new.pass
-    (λ p q quantity. Gets c.args.get.now p q (g.A.GetAnswer.reply c.get_and_reap-answered.result.reply) quantity) c.get_and_reap-answered.result.quantity c.get_and_reap-answered.result.reaps (g.C.CountReplies.count c.count_answer.new.self) all c.self.invariant.primaries within c.index_mut-pass.ensures.value
+    (λ p q quantity. Gets (g.A.GetAnswer.get c.args.get.now) p q (g.A.GetAnswer.reply c.get_and_reap-answered.result.reply) quantity) c.get_and_reap-answered.result.quantity c.get_and_reap-answered.result.reaps (g.C.CountReplies.count c.count_answer.new.self) all c.self.invariant.primaries within c.index_mut-pass.ensures.value
     c.get_and_reap-answered.ensures.gate steps c.count_answer.ensures)

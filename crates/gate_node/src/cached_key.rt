@@ -1,12 +1,9 @@
 //! Keys of the default bucket type whose names are short, in a place of a fixed size.
 ghost use Rattle.std.specs.Prelude.{◌≡◌, [], IfSome, IsTrue};
-ghost use Rattle.riak_msgs.specs.BucketTypes.{default_type};
 ghost use Rattle.riak_msgs.specs.Requests.{default_key};
 ghost use Rattle.gate_node.specs.PartitionCache.{key_in};
 
 use byteorder::{ByteOrder, LittleEndian};
-use riak_msgs::{BucketType, Key};
-use std::cmp::Ordering;
 
 /// How many bytes a bucket and a key have together at most: three times what is compared at once.
 const MAX_LEN: usize = 48;
@@ -27,64 +24,48 @@ const LEN_MULTIPLIER: u64 = 0xa076_1d64_78bd_642f;
 /// A key of the default bucket type whose bucket and key have up to 48 bytes together: the bytes of one behind those of the other, and zeros
 /// behind them. It is copied as it is.
 #[derive(Clone, Copy, PartialEq)]
-pub(crate) struct ShortKey {
+pub(crate) struct CachedKey {
     bucket_len: u8,
     key_len: u8,
     bytes: [u8; MAX_LEN],
 }
 
-/// Whether a bucket type is the default.
-#[inline(always)]
-fn is_default(bucket_type: &BucketType) -> bool
-    ensures { IsTrue result → bucket_type.now ≡ default_type }
-{
-    match bucket_type.cmp(&BucketType::default_type()) {
-        Ordering::Equal => true,
-        _ => false,
-    }
-}
-
-impl ShortKey {
+impl CachedKey {
     /// The key whose bucket and name are empty.
     #[inline(always)]
-    pub(crate) fn empty() -> ShortKey
+    pub(crate) fn empty() -> CachedKey
         ensures { key_in result ≡ default_key [] [] }
     {
-        ShortKey {
+        CachedKey {
             bucket_len: 0,
             key_len: 0,
             bytes: [0; MAX_LEN],
         }
     }
 
-    /// A key, where it is one of these.
+    /// The key of the default bucket type with these names, where they have up to 48 bytes together.
     #[inline(always)]
-    pub(crate) fn of(key: &Key) -> Option<ShortKey>
-        ensures { IfSome result (λ short. key_in short ≡ key.now) }
+    pub(crate) fn of_names(bucket: &[u8], key: &[u8]) -> Option<CachedKey>
+        ensures { IfSome result (λ cached. key_in cached ≡ default_key bucket.now key.now) }
     {
-        let bucket = key.bucket.as_slice();
-        let name = key.key.as_slice();
         let bucket_len = bucket.len();
-        if bucket_len > MAX_LEN || name.len() > MAX_LEN - bucket_len {
+        if bucket_len > MAX_LEN || key.len() > MAX_LEN - bucket_len {
             return None;
         }
-        if !is_default(&key.bucket_type) {
-            return None;
-        }
-        let end = bucket_len + name.len();
+        let end = bucket_len + key.len();
         let mut bytes = [0; MAX_LEN];
         bytes[..bucket_len].copy_from_slice(bucket);
-        bytes[bucket_len..end].copy_from_slice(name);
-        Some(ShortKey {
+        bytes[bucket_len..end].copy_from_slice(key);
+        Some(CachedKey {
             bucket_len: bucket_len as u8,
-            key_len: name.len() as u8,
+            key_len: key.len() as u8,
             bytes,
         })
     }
 
     /// Whether two are one key. It is a call, so that both lie in memory, where many bytes are compared at once.
     #[inline(never)]
-    pub(crate) fn is_same(&self, other: &ShortKey) -> bool
+    pub(crate) fn is_same(&self, other: &CachedKey) -> bool
         ensures { IsTrue result → key_in self.now ≡ key_in other.now }
     {
         self == other
