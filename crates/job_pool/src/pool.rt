@@ -291,7 +291,8 @@ where
     requires jobs { GivesOnly G.gives (S.accepts service.now) jobs.old }
     requires new { Every (IsNew K.told K.has_room) worker_setups.items }
     ensures told { IfOk result (λ done.
-        TellsEachOnce G.gives (S.serves service.now) K.told jobs.old worker_setups.items done jobs.new) }
+        TellsEachOnce G.gives (S.serves service.now) K.told jobs.old worker_setups.items done
+        jobs.new) }
     ensures fault { IfErr result (λ fault. Leaves G.gives fault jobs.old jobs.new) }
 
     // Where the source failed, each job that it gave was told or refused once.

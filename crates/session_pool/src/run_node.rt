@@ -175,6 +175,22 @@ impl<'a, W: Wait, T: Turnstile> Node for RunNode<'a, W, T> {
         framed
     }
 
+    #[inline(always)]
+    fn answer_plain_get(
+        &mut self,
+        alloc: Global,
+        bucket: &[u8],
+        key: &[u8],
+        out: &mut ReplyFrame,
+        scratch: &mut Scratch,
+    ) -> Option<FramedReply> {
+        let framed = self
+            .node
+            .answer_plain_get(alloc, bucket, key, out, scratch)?;
+        self.at = gates_seen(self.shared);
+        Some(framed)
+    }
+
     fn make_room(&self, alloc: Global) -> bool {
         self.node.make_room(alloc)
     }
