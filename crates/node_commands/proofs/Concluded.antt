@@ -24,8 +24,9 @@ use Rattle.node_commands.specs.declared.progress.Progress.{Progress}
 use Rattle.node_commands.specs.declared.progress.Paused.{Paused}
 use Rattle.node_commands.specs.declared.options.ServerSettings.{ServerSettings}
 use Rattle.node_commands.specs.Runs.{IsAtPositions, IsByRegister, replies_of}
-use Rattle.node_commands.specs.Periods.{AllEnded, CanServe, GoesThrough, HasRun, IsControlled, PeriodsAreLegal, rested_in}
+use Rattle.node_commands.specs.Periods.{AllEnded, CanServe, GoesThrough, HasRun, IsControlled, NoneRests, PeriodsAreLegal, rested_in}
 use Rattle.node_commands.proofs.Begun.{every_at}
+use Rattle.node_commands.proofs.Ends.{all_are_over}
 use Rattle.node_commands.proofs.Legal.{are_by_register, ends_further, of_new_run}
 
 abbrev Session : Type 0
@@ -94,10 +95,10 @@ periods_are_legal settings last run kept tallies count_all shares none all =
     }
 
 -- what came of a server that ended so, with tallies of what its passes have seen
-pub is_controlled : (settings : ServerSettings) (last : Paused) (outcome : Controlled) → CanServe settings last
+pub is_controlled : (settings : ServerSettings) (last : Paused) (outcome : Controlled) → CanServe settings last → NoneRests last.progress
     → ShareHistories (λ (s : Sights). s) last.shared.gates (last.progress.seen ∷ []) outcome.tallies.tallies.items outcome.tallies.count_all
     → outcome.totals ≡ last.progress.totals → outcome.connections ≡ last.progress.connections → outcome.closed ≡ last.progress.closed → HaveTracks (handoff_of last.shared) outcome.tracks → IsControlled settings outcome
-is_controlled settings last outcome can history totals connections closed tracks =
+is_controlled settings last outcome can none history totals connections closed tracks =
     let run = can.run in
     let seen = last.progress.seen in
     let Kept : Sights → Type 0 = λ sights. ArePassesOf last.shared sights in
@@ -107,6 +108,8 @@ is_controlled settings last outcome can history totals connections closed tracks
       last = last;
       run = run;
       limit = can.limit;
+      none_rests = none;
+      all = all_are_over settings last run none ∙ sym connections;
       history = history;
       positions = all_tell history.histories run.first run.path last run.goes saw;
       legal = periods_are_legal settings last run can.ready.passes outcome.tallies.tallies.items outcome.tallies.count_all history;

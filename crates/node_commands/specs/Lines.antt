@@ -1,5 +1,6 @@
 -- The lines that a run of connections writes, and why it stopped in words.
 use Rattle.std.specs.Prelude.{ℕ, List, [], Option, Some, None, codes, decimal, ◌++◌}
+use Rattle.std.specs.Io.KnownBytes.{Appends}
 use Rattle.key_counts.specs.declared.counts.KeyCounts.{KeyCounts}
 use Rattle.stats_book.specs.declared.totals.Totals.{Totals}
 use Rattle.node_commands.specs.declared.fault.ServeFault.{ServeFault}
@@ -20,6 +21,10 @@ others_text t = codes " refusals " ++ decimal t.refusals ++ codes " reaps " ++ d
 -- the line of the totals
 abbrev pub totals_line : Totals → List ℕ
 totals_line t = commands_text t ++ others_text t
+
+-- the last that was written is this line
+abbrev pub EndsWithLine : {W : Type 0} → (W → Option (List ℕ)) → W → List ℕ → Type 0
+EndsWithLine {W} contents writer line = (before : W) × Appends (contents before) (contents writer) line
 
 -- the same of a server that goes on, with how many connections it has accepted
 abbrev pub open_text : Totals → ℕ → List ℕ

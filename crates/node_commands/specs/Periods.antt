@@ -29,6 +29,10 @@ use Rattle.node_commands.specs.Runs.{IsAtPositions, IsByRegister, IsNewRun, Told
 abbrev pub rested_in : Progress → List (List (PausedSessionView RequestHalf ReplyHalf))
 rested_in progress = map (λ one. one.items) progress.rested.items
 
+-- no session rests
+abbrev pub NoneRests : Progress → Type 0
+NoneRests progress = concat (rested_in progress) ≡ []
+
 -- no session has begun over these gates
 pub record IsNew (gates : Gates) (progress : Progress) : Type 0 where
   pub none : progress.rested.items ≡ []
@@ -99,6 +103,16 @@ abbrev pub AllEnded : (Gates → ToldSession RequestHalf ReplyHalf → Type 0) �
 AllEnded P first [] last goes = Unit {0}
 AllEnded P first (next ∷ path) last goes = EachEnded P first next goes.0 × AllEnded P next path last goes.1
 
+-- how many sessions ended or were refused in a period, and how many of its connections were closed, together
+abbrev pub over_in : (old new : Paused) → Moves old new → ℕ
+over_in old new (inl (same, served)) = (length served.told.ended + served.served.refused) + served.away
+over_in old new (inr diverted) = 0
+
+-- so in all of them
+abbrev pub all_over : (first : Paused) (path : List Paused) (last : Paused) → GoesThrough first path last → ℕ
+all_over first [] last goes = 0
+all_over first (next ∷ path) last goes = over_in first next goes.0 + all_over next path last goes.1
+
 -- The gates are still those of the first period. These histories are legal for the sibling register, and each session that ended, in whatever period, is by
 -- steps of the register among others, in them.
 pub record PeriodsAreLegal (histories : List GateHistory) (first : Paused) (path : List Paused) (last : Paused) (goes : GoesThrough first path last) : Type 0 where
@@ -106,13 +120,16 @@ pub record PeriodsAreLegal (histories : List GateHistory) (first : Paused) (path
   pub legal : AreLegal last.shared histories
   pub by_register : AllEnded (IsByRegister histories) first path last goes
 
--- What came of a server. The totals are what all sessions counted, and the tallies are those of one history of each primary's vnode through all of it: each
--- reply at a primary of each session that ended, in whatever period, is at a position of that. Where no partition was ever diverted, and the tallies count
--- all of these histories, all replies are legal. What is known of the partitions' diversions holds.
+-- What came of a server. No session rests, and as many ended, were refused or were closed as connections were accepted. The totals are what all sessions
+-- counted, and the tallies are those of one history of each primary's vnode through all of it: each reply at a primary of each session that ended, in
+-- whatever period, is at a position of that. Where no partition was ever diverted, and the tallies count all of these histories, all replies are legal. What
+-- is known of the partitions' diversions holds.
 pub record IsControlled (settings : ServerSettings) (outcome : Controlled) : Type 0 where
   pub last : Paused
   pub run : HasRun settings last
   pub limit : IfSome settings.options.connections (λ limit. last.progress.connections ≤ limit)
+  pub none_rests : NoneRests last.progress
+  pub all : all_over run.first run.path last run.goes ≡ outcome.connections
   pub history : ShareHistories (λ (sights : Sights). sights) last.shared.gates (last.progress.seen ∷ []) outcome.tallies.tallies.items outcome.tallies.count_all
   pub positions : AllEnded (IsAtPositions history.histories) run.first run.path last run.goes
   pub legal : AreNone last.shared.fallbacks → outcome.tallies.count_all ≡ true → PeriodsAreLegal history.histories run.first run.path last run.goes

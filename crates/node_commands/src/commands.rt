@@ -111,6 +111,13 @@ fn wait_for_workers<X: Clock + Wait>(rt: &X, stop: &RunSignals, has_ended: &Atom
 }
 
 impl<C: Read + Write> Console<C> {
+    /// Has the server stopped, now and in each later period.
+    fn stop(&mut self, stop: &RunSignals) -> Asked {
+        self.is_stopping = true;
+        stop.raise();
+        Asked::Stop
+    }
+
     /// Has the workers paused for this, and returns it; refuses it where too little memory is kept back by which they could be started again.
     fn pause_for<X: Clock + Log>(
         &mut self,
@@ -188,8 +195,7 @@ impl<C: Read + Write> Console<C> {
             }
             OperatorCommand::Stop => {
                 info!(rt; "the operator stops the node");
-                stop.raise();
-                return Some(Asked::Stop);
+                return Some(self.stop(stop));
             }
             OperatorCommand::Divert(partition) | OperatorCommand::Return(partition) => partition,
             OperatorCommand::Copy { partition, .. } => partition,
@@ -226,7 +232,7 @@ impl<C: Read + Write> Console<C> {
     }
 
     /// Waits until the workers have what they keep for themselves, tells what was kept, and does what the lines that come ask for, until one needs a pause or stops the node, the input ends, which stops it, or
-    /// serving has ended. A line without its line feed is none.
+    /// serving has ended. A line without its line feed is none. Where it was to be stopped before, it is at once, and nothing is read.
     pub(crate) fn hear<X: Clock + Log + Wait>(
         &mut self,
         rt: &X,
@@ -239,6 +245,9 @@ impl<C: Read + Write> Console<C> {
         requires { HaveTracks (handoff_of shared.now) tracks.old }
         ensures { HaveTracks (handoff_of shared.now) tracks.new }
     {
+        if self.is_stopping {
+            return self.stop(stop);
+        }
         wait_for_workers(rt, stop, has_ended);
         self.tell_kept(rt, alloc, shared.handoff());
         for _ in rt.forever() {
@@ -246,8 +255,7 @@ impl<C: Read + Write> Console<C> {
                 Heard::Over => return Asked::Nothing,
                 Heard::End => {
                     info!(rt; "the end of the input stops the node");
-                    stop.raise();
-                    return Asked::Stop;
+                    return self.stop(stop);
                 }
                 Heard::Line => {
                     if let Some(asked) = self.heed_line(rt, alloc, shared, stop, tracks) {

@@ -98,6 +98,8 @@ pub(crate) struct Console<C> {
     started: Option<Instant>,
     /// The run's number.
     run: u32,
+    /// Whether the server is to be stopped, by a line or since the input has ended.
+    pub(crate) is_stopping: bool,
 }
 
 impl<C: Drop> Console<C> {
@@ -117,6 +119,7 @@ impl<C: Drop> Console<C> {
             counts: ServerCounts::new(alloc, settings.options.workers).ok()?,
             started: Instant::now(rt).ok(),
             run: settings.options.run,
+            is_stopping: false,
         })
     }
 }

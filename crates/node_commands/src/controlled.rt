@@ -5,7 +5,7 @@ ghost use Rattle.gate_node.specs.Gates.{handoff_of};
 ghost use Rattle.gate_node.specs.OneHistory.{ShareHistories};
 ghost use Rattle.gate_node.specs.Passes.{ArePassesOf, Sights};
 ghost use Rattle.node_commands.specs.Console.{AnswersDivert};
-ghost use Rattle.node_commands.specs.Periods.{CanServe, IsControlled};
+ghost use Rattle.node_commands.specs.Periods.{CanServe, IsControlled, NoneRests};
 ghost use Rattle.handoff_tracks.specs.Tracks.{HaveTracks};
 ghost use Rattle.node_commands.specs.declared.console.Told.TheVariants as tolds;
 
@@ -14,7 +14,7 @@ use crate::console::{Console, Told};
 use crate::fault::ServeFault;
 use crate::gates::new_shared;
 use crate::hearing::Hearing;
-use crate::lines::report;
+use crate::lines::tell_totals;
 use crate::options::ServerSettings;
 use crate::period::{Period, serve_on};
 use crate::progress::Paused;
@@ -44,6 +44,8 @@ pub struct Controlled {
     pub closed: u64,
     /// What is known of each partition's diversions, in the order of the partitions.
     pub tracks: HandoffTracks,
+    /// Whether the line of the totals was written.
+    pub wrote_totals: bool,
 }
 
 /// Whether serving ends that was paused or stopped for this.
@@ -138,7 +140,7 @@ fn heed<C: Read + Write>(
     }
 }
 
-/// Serves, one period behind another, until it is stopped or has ended by itself.
+/// Serves, one period behind another, until it is stopped or has ended by itself, and no session rests.
 fn serve_periods<T, C, W>(
     rt: &T,
     alloc: Global,
@@ -157,6 +159,7 @@ where
     requires begins { CanServe settings.now paused }
     requires tracks { HaveTracks (handoff_of paused.shared) tracks }
     ensures serves { IfOk result (λ left. CanServe settings.now left.0) }
+    ensures none_rests { IfOk result (λ left. NoneRests left.0.progress) }
     ensures tracks { IfOk result (λ left. HaveTracks (handoff_of left.0.shared) left.1) }
 {
     let mut paused = paused;
@@ -177,7 +180,9 @@ where
             tracks,
             announcing.take(),
         )?;
-        if is_end(hearing.asked) {
+        // none rests behind a period that was stopped or ended by itself; should one, it goes on, and isn't let go
+        let is_over = is_end(hearing.asked) && left.progress.rests_none();
+        if is_over {
             hearing.console.log_diverted(rt);
             return Ok((left, hearing.tracks));
         }
@@ -208,10 +213,14 @@ fn conclude<X: Wait>(
     paused: &Paused,
     settings: &ServerSettings,
     tracks: HandoffTracks,
+    wrote_totals: bool,
 ) -> Result<Controlled, ServeFault>
     requires serves { CanServe settings.now paused.now }
+    requires none_rests { NoneRests paused.now.progress }
     requires tracks { HaveTracks (handoff_of paused.now.shared) tracks }
-    ensures { IfOk result (IsControlled settings.now) }
+    ensures controlled { IfOk result (IsControlled settings.now) }
+    ensures told { IfOk result (λ outcome. (outcome.totals ≡ paused.now.progress.totals)
+        × (outcome.wrote_totals ≡ wrote_totals)) }
 {
     // what is asked and what is said name the settings
     let _settings = settings;
@@ -222,6 +231,7 @@ fn conclude<X: Wait>(
             connections: paused.progress.connections,
             closed: paused.progress.closed,
             tracks,
+            wrote_totals,
         }),
         Err(fault) => Err(fault),
     }
@@ -274,7 +284,8 @@ where
 
     // From a new run on the workers served or a partition was diverted, one behind another. In each period every session that rested went on, and each
     // connection that came had one begun; each of these ended, and its sink was told so, or rests, or was refused, once. What it wrote is what a session
-    // writes from its first read on, by a node over the gates as they were at each step. No more connections were accepted than were to be. There is one
+    // writes from its first read on, by a node over the gates as they were at each step. No more connections were accepted than were to be. In the end no
+    // session rests: each connection that was accepted has ended, was refused or was closed, and each once. There is one
     // history of each primary's vnode through all periods, of which every session that is over has seen a beginning, with its tally. Where no partition was
     // ever diverted, and the tallies count all, these histories are legal for the sibling register, and each of these sessions is by steps of the register
     // among others, in them. What is known of a
@@ -310,6 +321,6 @@ where
         &mut *writer,
     )?;
     tell_tracks(rt, tracks.tracks());
-    let _unheard = report(paused.progress.totals, writer);
-    conclude(rt, alloc, &paused, settings, tracks)
+    let wrote_totals = tell_totals(rt, paused.progress.totals, &mut *writer);
+    conclude(rt, alloc, &paused, settings, tracks, wrote_totals)
 }

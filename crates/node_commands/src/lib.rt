@@ -38,7 +38,8 @@
 //!
 //! `serve_controlled` is a path of periods and of diversions (`IsControlled`). In each period the
 //! workers serve as `serve` of `session_pool` says; partitions are diverted while the workers are
-//! paused. What is known of the partitions' diversions in the end holds (`tracks` of
+//! paused. In the end no session rests: as many ended, were refused or were closed as connections
+//! were accepted. What is known of the partitions' diversions in the end holds (`tracks` of
 //! `IsControlled`; `handoff_tracks`). Where no partition was ever diverted, the replies of all
 //! periods are legal as those of `serve_on_until` are.
 //!
@@ -63,7 +64,6 @@
 //! - The log.
 //! - That a partition is diverted because a line asked for it, and that what the operator is told
 //!   is its answer.
-//! - That no session rests in the end.
 //! - What is left if the workers of a later period can't be started.
 #![tactic(auto)]
 

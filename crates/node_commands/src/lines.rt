@@ -1,5 +1,5 @@
 //! The lines that a run of connections writes.
-ghost use Rattle.std.specs.Prelude.{OnOk};
+ghost use Rattle.std.specs.Prelude.{◌≡◌, true, OnOk};
 ghost use Rattle.std.specs.Io.KnownBytes.{Appends};
 ghost use Rattle.node_commands.specs.Lines.{address_line, commands_text, held_text, open_line};
 ghost use Rattle.node_commands.specs.Lines.{open_text, others_text, refused_text, stored_text};
@@ -138,11 +138,32 @@ pub(crate) fn write_open_totals<W: Write>(
     write_held(writer, counts, refused_puts)
 }
 
-/// Logs where some vnode's tally counts other than its history has entries, since then the laws of the register don't speak of this run; writes the
-/// totals, as far as that can be done.
-pub(crate) fn conclude<L: Log, W: Write>(rt: &L, totals: Totals, count_all: bool, writer: &mut W) {
+/// Writes and flushes the totals, in a line, and returns whether that could be done; the log tells where it couldn't.
+pub(crate) fn tell_totals<L: Log, W: Write>(rt: &L, totals: Totals, writer: &mut W) -> bool
+    ensures { result ≡ true → Appends (W.contents writer.old) (W.contents writer.new)
+        (totals_line totals) }
+{
+    match report(totals, writer) {
+        Ok(()) => true,
+        Err(_) => {
+            warn!(rt; "the totals couldn't be written");
+            false
+        }
+    }
+}
+
+/// Logs where some vnode's tally counts other than its history has entries, since then the laws of the register don't speak of this run; tells the totals.
+pub(crate) fn conclude<L: Log, W: Write>(
+    rt: &L,
+    totals: Totals,
+    count_all: bool,
+    writer: &mut W,
+) -> bool
+    ensures { result ≡ true → Appends (W.contents writer.old) (W.contents writer.new)
+        (totals_line totals) }
+{
     if !count_all {
         warn!(rt; "the commands that were counted aren't all that the partitions' histories have");
     }
-    let _unheard = report(totals, writer);
+    tell_totals(rt, totals, writer)
 }

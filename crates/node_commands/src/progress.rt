@@ -1,10 +1,11 @@
 //! How far a server has come whose workers are paused.
 
-ghost use Rattle.std.specs.Prelude.{◌≡◌, ◌<◌, ◌^◌, IfErr, IfSome, OnErr, OnOk};
+ghost use Rattle.std.specs.Prelude.{◌≡◌, ◌<◌, ◌^◌, ◌↔◌, length, nat_eq, IfErr, IfSome, IsTrue, OnErr, OnOk};
+ghost use Rattle.std.specs.List.{list_all};
 ghost use Rattle.handoff.specs.Partitions.{IsDivertRefused};
 ghost use Rattle.gate_node.specs.Gates.{handoff_of};
 ghost use Rattle.session_pool.specs.Resuming.{IsOnceDiverted};
-ghost use Rattle.node_commands.specs.Periods.{IsNew};
+ghost use Rattle.node_commands.specs.Periods.{IsNew, NoneRests};
 
 use gate_node::{Passes, Shared};
 use handoff::HandoffFault;
@@ -34,6 +35,13 @@ pub struct Paused {
     pub progress: Progress,
 }
 
+/// Whether none of these lists has a session.
+fn are_empty(lists: &[Vec<SocketSession>]) -> bool
+    ensures { result ≡ list_all (λ one. nat_eq (length one.items) 0) lists.now }
+{
+    lists.iter().all(|one| one.is_empty())
+}
+
 impl Progress {
     /// No session has begun, over these gates. None where memory is refused.
     fn new(alloc: Global, shared: &Shared) -> Option<Progress>
@@ -47,6 +55,13 @@ impl Progress {
             connections: 0,
             closed: 0,
         })
+    }
+
+    /// Whether no session rests.
+    pub(crate) fn rests_none(&self) -> bool
+        ensures { IsTrue result ↔ NoneRests self.now }
+    {
+        are_empty(self.rested.as_slice())
     }
 }
 

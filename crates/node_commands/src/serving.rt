@@ -185,7 +185,7 @@ where
     );
     if let Ok(served) = &outcome {
         log_ends(rt, served.ends.as_slice());
-        conclude(rt, served.totals, served.count_all, writer);
+        let _unheard = conclude(rt, served.totals, served.count_all, writer);
     }
     outcome
 }

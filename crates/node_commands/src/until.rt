@@ -1,7 +1,8 @@
 //! Serving for as long as is wanted.
 
-ghost use Rattle.std.specs.Prelude.{◌≡◌, ◌≤◌, None, Some, false, length, IfOk, IfSome};
+ghost use Rattle.std.specs.Prelude.{◌≡◌, ◌≤◌, None, Some, true, false, length, IfOk, IfSome};
 ghost use Rattle.gate_node.specs.Passes.{ArePassesOf};
+ghost use Rattle.node_commands.specs.Lines.{EndsWithLine, totals_line};
 ghost use Rattle.node_commands.specs.Runs.{AreTold, IsServedUntil, IsTallied};
 
 use crate::fault::{ServeFault, setup_fault};
@@ -35,6 +36,8 @@ pub struct ServedUntil<'a, T> {
     pub connections: u64,
     /// How many of them were closed before they came to a worker, for want of memory.
     pub closed: u64,
+    /// Whether the line of the totals was written.
+    pub wrote_totals: bool,
 }
 
 /// Starts a thread that raises the run's signals at the end of an input, if there is one.
@@ -78,6 +81,7 @@ where
             tallies,
             connections,
             closed,
+            wrote_totals: false,
         }),
         Err(_) => Err(ServeFault::NoMemory),
     }
@@ -198,11 +202,40 @@ where
     )
 }
 
+/// The same, once its totals were told.
+fn with_totals_told<'a, T: Log, W: Write>(
+    rt: &'a T,
+    outcome: ServedUntil<'a, T>,
+    writer: &mut W,
+) -> ServedUntil<'a, T>
+    ensures same { result
+        ≡ record outcome.entry { wrote_totals = result.wrote_totals } }
+    ensures line { result.wrote_totals ≡ true
+        → EndsWithLine W.contents writer.new (totals_line result.served.totals) }
+{
+    let ServedUntil {
+        served,
+        tallies,
+        connections,
+        closed,
+        wrote_totals: _,
+    } = outcome;
+    let wrote_totals = conclude(rt, served.totals, tallies.count_all, writer);
+    ServedUntil {
+        served,
+        tallies,
+        connections,
+        closed,
+        wrote_totals,
+    }
+}
+
 /// Serves all connections of a listener, each as it is ready, by threads that have many of them each, over the gates of a new run.
 ///
 /// It serves until as many connections were accepted as are to be and all of them have ended by themselves, or until an input ends or the
 /// listener fails, when it ends them. One for which memory is refused is closed, and is one of those that were accepted. It writes
-/// `listening ADDRESS` once all threads were started, before the first connection is accepted, and the totals at the end. A failed write of these is passed over. The log
+/// `listening ADDRESS` once all threads were started, before the first connection is accepted, and the totals at the end. A failed write of these is passed over, that of the totals
+/// with a warning in the log. The log
 /// has a line for each connection when it is accepted, and one when it has ended.
 ///
 /// There is one history of the primary of each partition, which the vnode's machine accepts, and after each step of each session its passes have seen
@@ -237,6 +270,10 @@ where
         IfSome settings.now.options.connections (λ limit. outcome.connections ≤ limit)) }
     ensures all { until ≡ None → IfOk result (λ outcome.
         settings.now.options.connections ≡ Some outcome.connections) }
+
+    // Where the totals were written, theirs is the last line.
+    ensures line { IfOk result (λ outcome. outcome.wrote_totals ≡ true
+        → EndsWithLine W.contents writer.new (totals_line outcome.served.totals)) }
 {
     let Some(shared) = new_shared(
         alloc,
@@ -255,8 +292,8 @@ where
         until,
         &mut *writer,
     );
-    if let Ok(outcome) = &outcome {
-        conclude(rt, outcome.served.totals, outcome.tallies.count_all, writer);
+    match outcome {
+        Ok(served) => Ok(with_totals_told(rt, served, writer)),
+        Err(fault) => Err(fault),
     }
-    outcome
 }

@@ -222,6 +222,7 @@ fn has_served(outcome: &Result<Controlled, ServeFault>, connections: u64, return
                 && outcome.closed == 0
                 && outcome.totals.puts == 0
                 && outcome.tallies.count_all
+                && outcome.wrote_totals
                 && knows_hand_offs(outcome, returned)
         }
         Err(_) => false,

@@ -337,7 +337,8 @@ fn serves<R: Log + Clock + Net + Threads + Wait + Sync>(
             && outcome.served.accepted == server.connections
             && outcome.served.refused == 0
             && outcome.tallies.tallies.as_slice() == [accepted_of(outcome.served.totals)].as_slice()
-            && outcome.tallies.count_all,
+            && outcome.tallies.count_all
+            && outcome.wrote_totals,
         Err(_) => false,
     }
 }
