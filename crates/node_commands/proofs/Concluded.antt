@@ -23,7 +23,7 @@ use Rattle.node_commands.specs.declared.controlled.Controlled.{Controlled}
 use Rattle.node_commands.specs.declared.progress.Progress.{Progress}
 use Rattle.node_commands.specs.declared.progress.Paused.{Paused}
 use Rattle.node_commands.specs.declared.options.ServerSettings.{ServerSettings}
-use Rattle.node_commands.specs.Runs.{IsAtPositions, IsByRegister, replies_of}
+use Rattle.node_commands.specs.Runs.{IsAtPositions, IsByRegister, replies_of, requests_of}
 use Rattle.node_commands.specs.Periods.{AllEnded, CanServe, GoesThrough, HasRun, IsControlled, NoneRests, PeriodsAreLegal, rested_in}
 use Rattle.node_commands.proofs.Begun.{every_at}
 use Rattle.node_commands.proofs.Ends.{all_are_over}
@@ -75,7 +75,7 @@ all_by_register last tallies count_all new none all kept shares first (next ∷ 
     let mine = seen_on next path last goes in
     let further = ends_further first.shared given last.progress.seen next.progress.seen mine ended served.told.each in
     let by_register = are_by_register last.shared last.progress.seen tallies count_all new none all kept shares given ended in (
-      subst (λ (gates : Gates). Every (IsToldSession (λ _. None) replies_of gates given last.progress.seen) ended → Every (IsByRegister shares.histories gates) ended) here by_register further,
+      subst (λ (gates : Gates). Every (IsToldSession requests_of replies_of gates given last.progress.seen) ended → Every (IsByRegister shares.histories gates) ended) here by_register further,
       all_by_register last tallies count_all new none all kept shares next path goes,
     )
 all_by_register last tallies count_all new none all kept shares first (next ∷ path) (inr (same, index, diverted), goes) = (tt, all_by_register last tallies count_all new none all kept shares next path goes)

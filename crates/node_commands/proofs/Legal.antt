@@ -23,7 +23,7 @@ use Rattle.socket_streams.specs.Sessions.{begun_by}
 use Rattle.node_commands.specs.declared.options.ServerSettings.{ServerSettings}
 use Rattle.node_commands.specs.declared.serving.Settings.{Settings}
 use Rattle.node_commands.specs.declared.until.ServedUntil.{ServedUntil}
-use Rattle.node_commands.specs.Runs.{AreConnectionsServed, AreServed, AreTold, IsByRegister, IsNewRun, IsServedUntil, replies_of}
+use Rattle.node_commands.specs.Runs.{AreConnectionsServed, AreServed, AreTold, IsByRegister, IsNewRun, IsServedUntil, replies_of, requests_of}
 
 abbrev Session : Type 0
 Session = PausedSessionView RequestHalf ReplyHalf
@@ -32,7 +32,7 @@ abbrev Ended : Type 0
 Ended = List (ToldSession RequestHalf ReplyHalf)
 
 abbrev AreEnds : Gates → List Session → Sights → Ended → Type 0
-AreEnds gates given seen ended = Every (IsToldSession (λ _. None) replies_of gates given seen) ended
+AreEnds gates given seen ended = Every (IsToldSession requests_of replies_of gates given seen) ended
 
 -- the gates of a new run are those of their own number's run
 pub of_new_run : (ring run sweep : ℕ) (gates : Gates) → IsNewRun ring run sweep gates → AreOfNewRun gates.run gates.gates
@@ -69,7 +69,7 @@ pub are_by_register : (gates : Gates) (seen : Sights) (tallies : List Tally) (co
     → (shares : ShareHistories (λ (s : Sights). s) gates.gates (seen ∷ []) tallies count_all) → (given : List Session) (ended : Ended) → AreEnds gates given seen ended → Every (IsByRegister shares.histories gates) ended
 are_by_register gates seen tallies count_all new none all kept shares given [] h = tt
 are_by_register gates seen tallies count_all new none all kept shares given (one ∷ ended) h = (
-  (told_is_legal (λ _. None) replies_of gates given seen one tallies count_all new none all kept shares h.0).ends,
+  (told_is_legal requests_of replies_of gates given seen one tallies count_all new none all kept shares h.0).ends,
   are_by_register gates seen tallies count_all new none all kept shares given ended h.1,
 )
 
@@ -85,7 +85,7 @@ connections_served settings closed gates new served =
       served = served;
       legal = λ count_all.
           let plain = tallies_plain gates all.histories closed.tallies.items of_run new.undiverted all.of_gates all.tallies (all.counted count_all) in
-          record { legal = plain.legal; by_register = ends_legally all.histories (λ _. None) replies_of gates new.undiverted plain.commands served.jobs closed.ends.items all.ends };
+          record { legal = plain.legal; by_register = ends_legally all.histories requests_of replies_of gates new.undiverted plain.commands served.jobs closed.ends.items all.ends };
     }
 
 -- and those that were served until no more were to be

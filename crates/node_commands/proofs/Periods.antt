@@ -20,7 +20,7 @@ use Rattle.node_commands.specs.declared.period.Before.{Before}
 use Rattle.node_commands.specs.declared.progress.Progress.{Progress}
 use Rattle.node_commands.specs.declared.progress.Paused.{Paused}
 use Rattle.node_commands.specs.declared.options.ServerSettings.{ServerSettings}
-use Rattle.node_commands.specs.Runs.{IsNewRun, ToldConnections, replies_of}
+use Rattle.node_commands.specs.Runs.{IsNewRun, ToldConnections, replies_of, requests_of}
 use Rattle.node_commands.specs.Periods.{AddsUp, CanServe, GoesThrough, HasRun, HasServed, IsNew, IsReady, Moves, rested_in}
 use Rattle.node_commands.proofs.Sources.{gave_all, new_for}
 
@@ -29,16 +29,16 @@ Session = PausedSessionView RequestHalf ReplyHalf
 
 -- a run of the pool over these gates, whose sessions may rest
 abbrev Told : Gates → SessionsView → Sights → ServedSessions RequestHalf ReplyHalf ToldConnections → SessionsView → Sights → Type 0
-Told gates first before served last seen = TellsSource (Unit {0}) (λ _. None) replies_of (λ (sink : ToldConnections). sink) gates GivesSession first before served last seen
+Told gates first before served last seen = TellsSource (Unit {0}) requests_of replies_of (λ (sink : ToldConnections). sink) gates GivesSession first before served last seen
 
 -- a listener's connections, of which none has come
-abbrev pub new_source : Gates → Option ℕ → ArrivalsView
-new_source gates limit = record { gates = gates; limit = limit; counts_refused = true; can_stop = true; given = 0; refused = 0 }
+abbrev pub new_source : Gates → ℕ → Option ℕ → ArrivalsView
+new_source gates before limit = record { gates = gates; limit = limit; counts_refused = true; can_stop = true; before = before; given = 0; refused = 0 }
 
 -- what a period came to: the sessions were those that rested and one for each of these connections
 pub has_served : (gates : Gates) (old new : Progress) (before : Before) (first last : SessionsView) (served : ServedSessions RequestHalf ReplyHalf ToldConnections) (seen : Sights) (accepted away : ℕ)
     → before ≡ record { totals = old.totals; connections = old.connections; closed = old.closed }
-    → first.rested ≡ in_turn (rested_in old) → (limit : Option ℕ) → first.source ≡ new_source gates limit
+    → first.rested ≡ in_turn (rested_in old) → (limit : Option ℕ) → first.source ≡ new_source gates old.connections limit
     → Told gates first old.seen served last seen → accepted ≡ last.source.given + last.source.refused → away ≡ last.source.refused
     → AddsUp before served accepted away seen new → HasServed gates old new
 has_served gates old new before first last served seen accepted away was rested limit source told count closed adds =
@@ -49,15 +49,15 @@ has_served gates old new before first last served seen accepted away was rested 
     let sums = gave_all first.source jobs last.source gave.gave in
     let given : told.0 ≡ in_turn (rested_in old) ++ map (begun_by gates) jobs =
     gave.are ∙ ap (λ (sessions : List Session). sessions ++ map (begun_by first.source.gates) jobs) rested ∙ ap (λ (g : Gates). in_turn (rested_in old) ++ map (begun_by g) jobs) same in
-    let all = subst (λ (sessions : List Session). TellsAll (Unit {0}) (λ _. None) replies_of (λ (sink : ToldConnections). sink) gates sessions old.seen served seen) given told.2 in
+    let all = subst (λ (sessions : List Session). TellsAll (Unit {0}) requests_of replies_of (λ (sink : ToldConnections). sink) gates sessions old.seen served seen) given told.2 in
     let many : last.source.given ≡ first.source.given + length jobs = sums.1 in
     let connections : new.connections ≡ before.connections + accepted = adds.connections in
     let from : before.connections ≡ old.connections = ap (λ (b : Before). b.connections) was in
     record {
       jobs = jobs;
-      fresh = new_for first.source gates same jobs last.source gave.gave;
+      fresh = new_for first.source gates old.connections same (ap (λ (s : ArrivalsView). s.before) source) none jobs last.source gave.gave;
       served = served;
-      told = subst (λ (sights : Sights). TellsAll (Unit {0}) (λ _. None) replies_of (λ (sink : ToldConnections). sink) gates (in_turn (rested_in old) ++ map (begun_by gates) jobs) old.seen served sights) (sym adds.seen_is) all;
+      told = subst (λ (sights : Sights). TellsAll (Unit {0}) requests_of replies_of (λ (sink : ToldConnections). sink) gates (in_turn (rested_in old) ++ map (begun_by gates) jobs) old.seen served sights) (sym adds.seen_is) all;
       rested = adds.rested;
       totals = subst (λ (b : Before). new.totals ≡ Rattle.stats_book.specs.Counting.both b.totals served.totals) was adds.totals;
       away = away;
@@ -66,7 +66,7 @@ has_served gates old new before first last served seen accepted away was rested 
     }
 
 -- those that rest behind a run of the pool may go on over its gates
-each_may : (gates : Gates) (given : List Session) (rested : List (RestedSession RequestHalf ReplyHalf)) → Every (IsRestedSession (λ _. None) replies_of gates given (Unit {0})) rested → Every (CanGoOn gates) (map now_of rested)
+each_may : (gates : Gates) (given : List Session) (rested : List (RestedSession RequestHalf ReplyHalf)) → Every (IsRestedSession requests_of replies_of gates given (Unit {0})) rested → Every (CanGoOn gates) (map now_of rested)
 each_may gates given [] h = tt
 each_may gates given (one ∷ rested) h = (record { later = later_to one.now.over gates h.0.rests.over; room = h.0.rests.room refl }, each_may gates given rested h.1)
 
@@ -86,7 +86,7 @@ within_left (Some most) left old accepted new is before few sum =
 
 -- so behind a run of the pool
 pub still_within : (gates : Gates) (old : Progress) (first last : SessionsView) (served : ServedSessions RequestHalf ReplyHalf ToldConnections) (seen : Sights) (limit left : Option ℕ) (accepted new : ℕ)
-    → first.source ≡ new_source gates left → Told gates first old.seen served last seen → left ≡ option_map (λ most. most - old.connections) limit → IfSome limit (λ most. old.connections ≤ most)
+    → first.source ≡ new_source gates old.connections left → Told gates first old.seen served last seen → left ≡ option_map (λ most. most - old.connections) limit → IfSome limit (λ most. old.connections ≤ most)
     → IfSome last.source.limit (λ most. accepted ≤ most) → new ≡ old.connections + accepted → IfSome limit (λ most. new ≤ most)
 still_within gates old first last served seen limit left accepted new source told is before few sum =
     let gave = gave_sessions first told.0 last told.1 in

@@ -8,7 +8,7 @@ use Rattle.worker_pool.specs.declared.job.Job.{Job}
 use Rattle.worker_pool.specs.Serving.{IsForGates}
 use Rattle.socket_streams.specs.declared.halves.RequestHalf.{RequestHalf}
 use Rattle.socket_streams.specs.declared.halves.ReplyHalf.{ReplyHalf}
-use Rattle.socket_streams.specs.Arriving.{ArrivalsView, IsSameSource, IsNewConnection, GivesConnection}
+use Rattle.socket_streams.specs.Arriving.{ArrivalsView, IsSameSource, AreNewConnections, GivesConnection}
 
 pub same_twice : (first next last : ArrivalsView) → IsSameSource first next → IsSameSource next last → IsSameSource first last
 same_twice first next last one two = record {
@@ -16,6 +16,7 @@ same_twice first next last one two = record {
   limit = two.limit ∙ one.limit;
   counts_refused = two.counts_refused ∙ one.counts_refused;
   can_stop = two.can_stop ∙ one.can_stop;
+  before = two.before ∙ one.before;
 }
 
 -- the number of a limit that is one
@@ -31,6 +32,7 @@ keeps_source first [] next is =
         limit = ap (λ v. v.limit) is;
         counts_refused = ap (λ v. v.counts_refused) is;
         can_stop = ap (λ v. v.can_stop) is;
+        before = ap (λ v. v.before) is;
       },
       omega arith,
     )
@@ -40,17 +42,24 @@ keeps_source first (job ∷ jobs) next h =
     let more : next.given ≡ h.0.given + length jobs = rest.1 in
     (same_twice first h.0 next h.1.0 rest.0, omega arith)
 
-pub all_connections : (first : ArrivalsView) (jobs : List (Job RequestHalf ReplyHalf)) (next : ArrivalsView) → Gave GivesConnection first jobs next → Every (IsNewConnection first.gates) jobs
+pub all_connections : (first : ArrivalsView) (jobs : List (Job RequestHalf ReplyHalf)) (next : ArrivalsView) → Gave GivesConnection first jobs next → AreNewConnections first.gates (first.before + first.given) jobs
 all_connections first [] next is = tt
-all_connections first (job ∷ jobs) next h = (h.1.1.0, subst (λ g. Every (IsNewConnection g) jobs) h.1.0.gates (all_connections h.0 jobs next h.2))
+all_connections first (job ∷ jobs) next h =
+    let before : h.0.before ≡ first.before = h.1.0.before in
+    let one : h.0.given ≡ first.given + 1 = h.1.1.1 in
+    let number : h.0.before + h.0.given ≡ first.before + first.given + 1 = omega (arith, before, one) in
+    (h.1.1.0, subst (λ n. AreNewConnections first.gates n jobs) number (subst (λ g. AreNewConnections g (h.0.before + h.0.given) jobs) h.1.0.gates (all_connections h.0 jobs next h.2)))
 
 -- what it gives is for its gates
 pub gives_for : (first : ArrivalsView) (gates : Gates) → first.gates ≡ gates → GivesOnly GivesConnection (IsForGates gates) first
 gives_for first gates same jobs next last job gave given = subst (λ g. IsForGates g job) ((keeps_source first jobs next gave).0.gates ∙ same) (given.1.0.of_gates)
 
 -- and all that it gave is new
-pub new_for : (first : ArrivalsView) (gates : Gates) → first.gates ≡ gates → (jobs : List (Job RequestHalf ReplyHalf)) (last : ArrivalsView) → GaveAll GivesConnection first jobs last → Every (IsNewConnection gates) jobs
-new_for first gates same jobs last gave = subst (λ g. Every (IsNewConnection g) jobs) same (all_connections first jobs gave.0 gave.1)
+pub new_for : (first : ArrivalsView) (gates : Gates) (number : ℕ) → first.gates ≡ gates → first.before ≡ number → first.given ≡ 0 → (jobs : List (Job RequestHalf ReplyHalf)) (last : ArrivalsView) → GaveAll GivesConnection first jobs last
+    → AreNewConnections gates number jobs
+new_for first gates number same before none jobs last gave =
+    let from : first.before + first.given ≡ number = omega (arith, before, none) in
+    subst (λ n. AreNewConnections gates n jobs) from (subst (λ g. AreNewConnections g (first.before + first.given) jobs) same (all_connections first jobs gave.0 gave.1))
 
 -- where it gave no more, as many were accepted as were to be, or it might have been stopped
 pub gave_all : (first : ArrivalsView) (jobs : List (Job RequestHalf ReplyHalf)) (last : ArrivalsView) → GaveAll GivesConnection first jobs last

@@ -1,5 +1,5 @@
 -- What a server comes to that is paused and goes on.
-use Rattle.std.specs.Prelude.{◌≡◌, ◌+◌, ◌≤◌, ◌⊎◌, ◌++◌, ℕ, true, List, [], ◌∷◌, None, IfSome, length, map}
+use Rattle.std.specs.Prelude.{◌≡◌, ◌+◌, ◌≤◌, ◌⊎◌, ◌++◌, ℕ, true, List, [], ◌∷◌, IfSome, length, map}
 use mathlib.Core.Logic.{inl, inr}
 use Rattle.job_pool.specs.Lists.{Every, concat}
 use Rattle.stats_book.specs.Counting.{both, zeros}
@@ -15,7 +15,7 @@ use Rattle.session_pool.specs.PausedSessions.{CanGoOn, PausedSessionView}
 use Rattle.session_pool.specs.Telling.{ToldSession, TellsAll}
 use Rattle.socket_streams.specs.declared.halves.RequestHalf.{RequestHalf}
 use Rattle.socket_streams.specs.declared.halves.ReplyHalf.{ReplyHalf}
-use Rattle.socket_streams.specs.Arriving.{IsNewConnection}
+use Rattle.socket_streams.specs.Arriving.{AreNewConnections}
 use Rattle.socket_streams.specs.Sessions.{begun_by, in_turn}
 use Rattle.node_commands.specs.declared.controlled.Controlled.{Controlled}
 use Rattle.node_commands.specs.declared.period.Before.{Before}
@@ -23,7 +23,7 @@ use Rattle.node_commands.specs.declared.progress.Progress.{Progress}
 use Rattle.node_commands.specs.declared.progress.Paused.{Paused}
 use Rattle.node_commands.specs.declared.options.ServerSettings.{ServerSettings}
 use Rattle.handoff_tracks.specs.Tracks.{HaveTracks}
-use Rattle.node_commands.specs.Runs.{IsAtPositions, IsByRegister, IsNewRun, ToldConnections, replies_of}
+use Rattle.node_commands.specs.Runs.{IsAtPositions, IsByRegister, IsNewRun, ToldConnections, replies_of, requests_of}
 
 -- the sessions that rest, of each worker
 abbrev pub rested_in : Progress → List (List (PausedSessionView RequestHalf ReplyHalf))
@@ -51,9 +51,9 @@ pub record IsReady (gates : Gates) (progress : Progress) : Type 0 where
 -- new connections. Each was told, rests or was refused, once, as a run of the pool says; and what was counted came to what had been.
 pub record HasServed (gates : Gates) (old new : Progress) : Type 0 where
   pub jobs : List (Job RequestHalf ReplyHalf)
-  pub fresh : Every (IsNewConnection gates) jobs
+  pub fresh : AreNewConnections gates old.connections jobs
   pub served : ServedSessions RequestHalf ReplyHalf ToldConnections
-  pub told : TellsAll (Unit {0}) (λ _. None) replies_of (λ sink. sink) gates (in_turn (rested_in old) ++ map (begun_by gates) jobs) old.seen served new.seen
+  pub told : TellsAll (Unit {0}) requests_of replies_of (λ sink. sink) gates (in_turn (rested_in old) ++ map (begun_by gates) jobs) old.seen served new.seen
   pub rested : new.rested ≡ served.resting
   pub totals : new.totals ≡ both old.totals served.totals
   pub away : ℕ

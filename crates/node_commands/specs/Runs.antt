@@ -1,6 +1,7 @@
 -- What a run of connections leaves.
-use Rattle.std.specs.Prelude.{◌≡◌, ◌+◌, ◌^◌, ℕ, true, false, List, [], ◌∷◌, Option, Some, None, length, map}
+use Rattle.std.specs.Prelude.{◌≡◌, ◌+◌, ◌^◌, ℕ, true, false, List, [], ◌∷◌, length, map}
 use Rattle.job_pool.specs.Lists.{Every, Pairwise}
+use Rattle.node_session.specs.Streams.{SourceView, TargetView}
 use Rattle.gate_node.specs.Gates.{Gates, AreNone, AreOfNewRun}
 use Rattle.gate_node.specs.OneHistory.{AreOfGates, IsSeen, ShareHistories}
 use Rattle.gate_node.specs.Passes.{Sights, ArePassesOf, AreUnused}
@@ -20,8 +21,8 @@ use Rattle.session_pool.specs.Resuming.{RunStepIn}
 use Rattle.session_pool.specs.Telling.{ToldSession, TellsAll, with_passes}
 use Rattle.socket_streams.specs.declared.halves.RequestHalf.{RequestHalf}
 use Rattle.socket_streams.specs.declared.halves.ReplyHalf.{ReplyHalf}
-use Rattle.socket_streams.specs.Sending.{written}
-use Rattle.socket_streams.specs.Arriving.{IsNewConnection}
+use Rattle.socket_streams.specs.Sending.{target_of_replies}
+use Rattle.socket_streams.specs.Arriving.{AreNewConnections}
 use Rattle.socket_streams.specs.Sessions.{begun_by}
 use Rattle.node_commands.specs.declared.serving.Settings.{Settings}
 use Rattle.node_commands.specs.declared.until.ServedUntil.{ServedUntil}
@@ -38,22 +39,25 @@ pub record IsNewRun (ring run sweep : ℕ) (gates : Gates) : Type 0 where
   pub new_vnodes : AreOfNewRun run gates.gates
   pub undiverted : AreNone gates.fallbacks
 
--- what was written to a connection, of which what the system took is the beginning
-abbrev pub replies_of : ReplyHalf → Option (List ℕ)
-replies_of half = Some (written half)
+-- which connection it is, and what its reads gave
+abbrev pub requests_of : RequestHalf → SourceView
+requests_of half = half
 
--- So many connections were served over these gates by so many workers. What was written to each is the output for some input, since of the bytes
--- that a socket gives nothing is known.
+-- which one it is, and what was written to it, of which what the system took is the beginning
+abbrev pub replies_of : ReplyHalf → TargetView
+replies_of half = target_of_replies half
+
+-- So many connections were served over these gates by so many workers. What was written to each is the output for what its reads gave.
 pub record AreServed (gates : Gates) (connections workers : ℕ) (closed : Closed RequestHalf ReplyHalf) : Type 0 where
   pub jobs : List (Job RequestHalf ReplyHalf)
   pub count : length jobs ≡ connections
-  pub new : Every (IsNewConnection gates) jobs
-  pub served : ServesAll (λ _. None) replies_of gates workers jobs closed
+  pub new : AreNewConnections gates 0 jobs
+  pub served : ServesAll requests_of replies_of gates workers jobs closed
 
 -- these histories are legal for the sibling register, and each of these connections was served to its end by steps of the register among others, in them
 pub record ConnectionsAreLegal (gates : Gates) (histories : List GateHistory) (jobs : List (Job RequestHalf ReplyHalf)) (ends : List (End RequestHalf ReplyHalf)) : Type 0 where
   pub legal : AreLegal gates histories
-  pub by_register : Pairwise (EndsWell (AnswersAsRegister gates histories) (λ _. None) replies_of gates) jobs ends
+  pub by_register : Pairwise (EndsWell (AnswersAsRegister gates histories) requests_of replies_of gates) jobs ends
 
 -- The settings' connections were, over the gates of a new run; and by the register, where the tallies count all of the histories.
 pub record AreConnectionsServed (settings : Settings) (closed : Closed RequestHalf ReplyHalf) : Type 0 where
@@ -69,23 +73,23 @@ ToldConnections = List (NumberedEnd (SessionEnd RequestHalf ReplyHalf))
 -- a session of which a sink was told the end is by steps in these histories, over gates that became these
 abbrev pub IsAtPositions : List GateHistory → Gates → ToldSession RequestHalf ReplyHalf → Type 0
 IsAtPositions histories gates one =
-    IsEndOf (λ _. None) replies_of gates (RunStepIn histories gates) one.session one.counted false (with_passes one.end one.passes one.session.origin)
+    IsEndOf requests_of replies_of gates (RunStepIn histories gates) one.session one.counted false (with_passes one.end one.passes one.session.origin)
 
 -- such a session is by steps of the sibling register among others, in these histories
 abbrev pub IsByRegister : List GateHistory → Gates → ToldSession RequestHalf ReplyHalf → Type 0
 IsByRegister histories gates one =
-    IsEndOf (λ _. None) replies_of gates (AnswersAsRegister gates histories) one.session one.counted false (with_passes one.end one.passes one.session.origin)
+    IsEndOf requests_of replies_of gates (AnswersAsRegister gates histories) one.session one.counted false (with_passes one.end one.passes one.session.origin)
 
 -- Connections that were accepted were served over these gates, each to its end, but those that were closed for want of memory. What was written to each is
--- the output for some input. There is one history of the primary of each partition, of which the passes behind all sessions have seen a beginning: each
+-- the output for what its reads gave. There is one history of the primary of each partition, of which the passes behind all sessions have seen a beginning: each
 -- reply of each connection at it is at a position of that, and the primary's tally is of all of it.
 pub record AreTold (gates : Gates) (served : ServedSessions RequestHalf ReplyHalf ToldConnections) (tallies : RunTallies) (connections closed : ℕ) : Type 0 where
   pub jobs : List (Job RequestHalf ReplyHalf)
-  pub new : Every (IsNewConnection gates) jobs
+  pub new : AreNewConnections gates 0 jobs
   pub unused : Sights
   pub seen : Sights
   pub had_seen_nothing : AreUnused unused
-  pub told : TellsAll ⊥ (λ _. None) replies_of (λ sink. sink) gates (map (begun_by gates) jobs) unused served seen
+  pub told : TellsAll ⊥ requests_of replies_of (λ sink. sink) gates (map (begun_by gates) jobs) unused served seen
   pub passes : ArePassesOf gates seen
   pub histories : List GateHistory
   pub of_gates : AreOfGates gates.gates histories

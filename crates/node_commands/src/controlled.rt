@@ -1,10 +1,11 @@
 //! Serving while an operator says what is to be done.
 
-ghost use Rattle.std.specs.Prelude.{◌≡◌, ◌≤◌, ◌∷◌, [], IfOk};
+ghost use Rattle.std.specs.Prelude.{◌≡◌, ◌≤◌, ◌∷◌, [], true, IfOk};
 ghost use Rattle.gate_node.specs.Gates.{handoff_of};
 ghost use Rattle.gate_node.specs.OneHistory.{ShareHistories};
 ghost use Rattle.gate_node.specs.Passes.{ArePassesOf, Sights};
 ghost use Rattle.node_commands.specs.Console.{AnswersDivert};
+ghost use Rattle.node_commands.specs.Lines.{EndsWithLine, totals_line};
 ghost use Rattle.node_commands.specs.Periods.{CanServe, IsControlled, NoneRests};
 ghost use Rattle.handoff_tracks.specs.Tracks.{HaveTracks};
 ghost use Rattle.node_commands.specs.declared.console.Told.TheVariants as tolds;
@@ -237,6 +238,27 @@ fn conclude<X: Wait>(
     }
 }
 
+/// Tells what came of a server, the totals in a line of their own.
+fn told<T: Log + Wait, W: Write>(
+    rt: &T,
+    alloc: Global,
+    paused: &Paused,
+    settings: &ServerSettings,
+    tracks: HandoffTracks,
+    writer: &mut W,
+) -> Result<Controlled, ServeFault>
+    requires serves { CanServe settings.now paused.now }
+    requires none_rests { NoneRests paused.now.progress }
+    requires tracks { HaveTracks (handoff_of paused.now.shared) tracks }
+    ensures controlled { IfOk result (IsControlled settings.now) }
+    ensures line { IfOk result (λ outcome. outcome.wrote_totals ≡ true
+        → EndsWithLine W.contents writer.new (totals_line outcome.totals)) }
+{
+    tell_tracks(rt, tracks.tracks());
+    let wrote_totals = tell_totals(rt, paused.progress.totals, writer);
+    conclude(rt, alloc, paused, settings, tracks, wrote_totals)
+}
+
 /// Serves the connections of a listener as [`serve_on_until`](crate::serve_on_until) does, over the gates of a new run, while an operator says line by line
 /// what is to be done (`control_text` has the commands and the answers).
 ///
@@ -291,7 +313,11 @@ where
     // among others, in them. What is known of a
     // partition's diversions is what each call of its hand-offs gave, one behind another: where all is known, no sibling was lost by them and none came
     // again (`known_hand_offs_join`).
-    ensures { IfOk result (IsControlled settings.now) }
+    ensures controlled { IfOk result (IsControlled settings.now) }
+
+    // Where the totals were written, theirs is the last line.
+    ensures line { IfOk result (λ outcome. outcome.wrote_totals ≡ true
+        → EndsWithLine W.contents writer.new (totals_line outcome.totals)) }
 {
     let Some(shared) = new_shared(
         alloc,
@@ -320,7 +346,5 @@ where
         tracks,
         &mut *writer,
     )?;
-    tell_tracks(rt, tracks.tracks());
-    let wrote_totals = tell_totals(rt, paused.progress.totals, &mut *writer);
-    conclude(rt, alloc, &paused, settings, tracks, wrote_totals)
+    told(rt, alloc, &paused, settings, tracks, writer)
 }

@@ -124,6 +124,7 @@ where
         closed,
     } = progress;
     let limits = Limits {
+        before: connections,
         connections: left_of(settings.options.connections, connections),
         counts_refused: true,
         can_stop: true,

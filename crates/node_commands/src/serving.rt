@@ -96,6 +96,7 @@ where
         return Err(ServeFault::NoMemory);
     };
     let limits = Limits {
+        before: 0,
         connections: Some(u64::from(connections)),
         counts_refused: false,
         can_stop: false,

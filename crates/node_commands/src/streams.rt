@@ -2,8 +2,9 @@
 
 ghost use Rattle.std.specs.Prelude.{◌⊎◌, ◌≤◌, ◌^◌, IfOk, IfErr};
 ghost use Rattle.std.specs.Io.KnownBytes.{IsAtEnd};
-ghost use Rattle.node_session.specs.Session.{Given, IsTooManyReads, MadeReads};
+ghost use Rattle.node_session.specs.Session.{Given};
 ghost use Rattle.node_session.specs.Pipes.{PipeEnds, PipeStops, IsNotBegun};
+ghost use Rattle.node_session.specs.Streams.{source_of};
 
 use gate_node::Ring;
 use node_session::{Ended, MAX_READS, PlainNode, SessionFault, serve};
@@ -24,19 +25,17 @@ pub fn pipe<R: Read, W: Write>(
 
     // All of the input was read, and what was written is what the sibling register answers to it.
     ensures ended { IfOk result (λ e.
-        Given (R.remaining reader.old) (R.remaining reader.new) (2 ^ 32) (λ input.
-        PipeEnds run ring sweep input
-        (W.contents writer.old) (W.contents writer.new) e.replies e.rest)) }
+        Given (source_of (R.remaining reader.old)) (source_of (R.remaining reader.new)) (2 ^ 32)
+        (PipeEnds run ring sweep (W.contents writer.old) (W.contents writer.new) e)) }
     ensures all { IfOk result (λ _. IsAtEnd (R.remaining reader.new)) }
 
     // The same of what was read and written before a fault, as far as the session got.
     ensures stopped { IfErr result (λ fault.
         IsNotBegun (R.remaining reader.old) (R.remaining reader.new)
         (W.contents writer.old) (W.contents writer.new) fault
-        ⊎ Given (R.remaining reader.old) (R.remaining reader.new) (2 ^ 32) (λ input.
-        PipeStops run ring sweep input (W.contents writer.old) (W.contents writer.new) fault)) }
-    ensures too_many { IfErr result (λ fault. IsTooManyReads fault
-        → MadeReads (R.remaining reader.old) (R.remaining reader.new) (2 ^ 32)) }
+        ⊎ Given (source_of (R.remaining reader.old)) (source_of (R.remaining reader.new)) (2 ^ 32)
+        (PipeStops run ring sweep (W.contents writer.old) (W.contents writer.new)
+        (2 ^ 32) fault)) }
 {
     let Ok(new) = PlainNode::on_ring(alloc, ring, run) else {
         return Err(SessionFault::NoMemory(0));

@@ -116,6 +116,7 @@ where
         return Err(ServeFault::NoMemory);
     };
     let limits = Limits {
+        before: 0,
         connections: settings.options.connections,
         counts_refused: true,
         can_stop,
@@ -235,8 +236,7 @@ fn with_totals_told<'a, T: Log, W: Write>(
 /// It serves until as many connections were accepted as are to be and all of them have ended by themselves, or until an input ends or the
 /// listener fails, when it ends them. One for which memory is refused is closed, and is one of those that were accepted. It writes
 /// `listening ADDRESS` once all threads were started, before the first connection is accepted, and the totals at the end. A failed write of these is passed over, that of the totals
-/// with a warning in the log. The log
-/// has a line for each connection when it is accepted, and one when it has ended.
+/// with a warning in the log, which has a line for each connection when it is accepted, and one when it has ended.
 ///
 /// There is one history of the primary of each partition, which the vnode's machine accepts, and after each step of each session its passes have seen
 /// beginnings of these histories. So each reply is at a position of the history of its key's vnode

@@ -1,6 +1,7 @@
 pub mod Frames
 pub mod Telling
 pub mod SentParts
+pub mod Streaming
 pub mod Standing
 pub mod Coming
 pub mod Weighing

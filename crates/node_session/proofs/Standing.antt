@@ -1,8 +1,8 @@
 -- How far a session has come, and how it ends.
 use Rattle.std.proofs.Common.{◌≡◌, ℕ, ◌+◌, ◌<◌, ◌≤◌, List, [], ◌∷◌, ◌++◌, length, take, Option, refl, sym, ap, subst, ◌∙◌, append_assoc, append-nil, length-append, inl, inr, arith}
 use Rattle.std.specs.List.{flat_map}
-use Rattle.std.specs.Io.KnownBytes.{Appends, Consumes, Keeps}
-use Rattle.std.proofs.KnownBytes.{Appends-trans, Appends-nil, Appends-kept, Consumes-trans, Consumes-kept, Consumes-nil}
+use Rattle.std.specs.Io.KnownBytes.{Appends, Keeps}
+use Rattle.std.proofs.KnownBytes.{Appends-trans, Appends-nil, Appends-kept}
 use Rattle.std.proofs.lemmas.List.{map-append, length-map}
 use Rattle.std.proofs.lemmas.List.Concat.{flat_map-append}
 use Rattle.pb_frame.specs.declared.fault.FrameFault.{FrameFault}
@@ -16,7 +16,7 @@ use Rattle.node_session.specs.declared.exchange.Exchange.{Exchange}
 use Rattle.node_session.specs.declared.fault.SessionFault.TheVariants.{BadFrame, NoMemory}
 use Rattle.node_session.specs.Answers.{Answers, AnswersInTurn, reply_frame, frame_fault_text}
 use Rattle.node_session.specs.Answered.{AllAnswered, AnsweredInput, NextReply, IsError, IsBadLengthTold, CameInLastRead, AtLastRead, WriteFailedAt, IsMemoryRefused}
-use Rattle.node_session.specs.Session.{IsInputEnd, MadeReads, Stops}
+use Rattle.node_session.specs.Session.{IsInputEnd, Stops}
 use Rattle.node_session.specs.Sending.{IsWriteCutShort, Stands}
 use Rattle.node_session.specs.Nexts.{IsNextAnswered, IsBadNext, IsLost}
 use Rattle.node_session.specs.Views.{Transcript, CanFollow, EndsInPiece, IsRead, message_of, messages_of, replies_of}
@@ -217,20 +217,3 @@ module _ {S : Type 0} (Step : S → Request → Reply → S → Type 0) where
           written = Appends-trans h h' h'' _ [] p.written none_more;
           ends = (came_after s.rest piece partial follows some, inr (record { node = refl; nothing = refl }));
         }
-
--- no read was made yet
-pub MadeReads-none : (unread : Option (List ℕ)) → MadeReads unread unread 0
-MadeReads-none unread = record { input = []; read = Consumes-nil unread; interrupted = 0; gave = omega arith }
-
--- so many reads more gave a piece
-pub MadeReads-piece : (a b c : Option (List ℕ)) (i k : ℕ) (piece : List ℕ) → MadeReads a b i → Consumes b c piece → k ≤ length piece → MadeReads a c (i + k)
-MadeReads-piece a b c i k piece p read some =
-    let len : length (p.input ++ piece) ≡ length p.input + length piece = length-append p.input piece in
-    let before : i ≤ p.interrupted + length p.input = p.gave in
-    record { input = p.input ++ piece; read = Consumes-trans a b c p.input piece p.read read; interrupted = p.interrupted; gave = omega (arith, len, before, some) }
-
--- one more read was interrupted
-pub MadeReads-interrupted : (a b c : Option (List ℕ)) (i : ℕ) → MadeReads a b i → Keeps b c → MadeReads a c (i + 1)
-MadeReads-interrupted a b c i p left =
-    let before : i ≤ p.interrupted + length p.input = p.gave in
-    record { input = p.input; read = Consumes-kept a b c p.input p.read left; interrupted = p.interrupted + 1; gave = omega (arith, before) }

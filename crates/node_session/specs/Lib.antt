@@ -1,4 +1,5 @@
 pub mod Limits
+pub mod Streams
 pub mod Answers
 pub mod Answered
 pub mod Session

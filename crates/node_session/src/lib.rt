@@ -38,10 +38,17 @@
 //! first dead keys of that key's vnode, so many at most. `plain_node_is_register` is the law of its
 //! sessions.
 //!
+//! How a session reads and writes is a [`Transport`]: that of any reader and writer, or that of a
+//! [`Source`] that notes its reads and a [`Target`] that tells what it holds back. By the notes clauses say
+//! what a session over a socket was given, though nobody knows that beforehand.
+//!
 //! # Proved
 //!
-//! The output of `serve` is the session's output for the bytes that it read, over any reader,
-//! writer and node. Each step of a `Session` leaves less to be done, so a session ends. **A session
+//! The output of `serve` is the session's output for the bytes that its reads gave, over any reader,
+//! writer and node. By the notes of these reads (`specs/Session`): the end of the input comes behind a
+//! read that gave nothing, and then the writer holds nothing back; `read failed` behind a read that failed
+//! and wasn't interrupted; `too many reads` just where the reads count for as many as may be made.
+//! Each step of a `Session` leaves less to be done, so a session ends. **A session
 //! over a plain node is one over the sibling register**: each reply but `no memory` is what the
 //! register answers at its place. By `serve`, the calls of `Session`, `Node`, `ReplyFrame` and
 //! `PlainNode`, `write_fault`, `exit_status`; laws `plain_node_is_register`, `read_limit`.
@@ -52,13 +59,13 @@
 //!
 //! # Open
 //!
-//! The contracts of streams show neither an error nor a flush, so no clause says:
+//! No clause says:
 //!
-//! - that a write which failed isn't tried again;
+//! - that a write which failed isn't tried again, and that `write failed` comes behind one that did;
 //! - that a read asks for all it may;
-//! - that what was written before a refusal of memory is flushed;
-//! - that `too many reads` comes only after all of them. No clause can say it, as an interrupted
-//!   read counts and leaves no trace.
+//! - that what was written before a refusal of memory is flushed.
+//!
+//! Of a reader that notes nothing the notes are any that give its bytes.
 #![tactic(auto)]
 
 mod answer_counts;
@@ -79,7 +86,10 @@ mod report;
 mod scratch;
 mod serving;
 mod session;
+mod source;
 mod stage;
+mod target;
+mod transport;
 mod vnode_reply;
 
 pub use answer_counts::{AnswerCounts, MessageKind};
@@ -97,4 +107,7 @@ pub use report::{exit_status, write_fault};
 pub use scratch::Scratch;
 pub use serving::{MAX_READ_LEN, serve};
 pub use session::Session;
+pub use source::{ReadNote, Source};
 pub use stage::Stage;
+pub use target::Target;
+pub use transport::{Noted, Plain, Transport};

@@ -2,14 +2,15 @@
 
 ghost use Rattle.std.specs.Prelude.{◌≡◌, ◌≤◌, ◌^◌, IfOk, IfErr};
 ghost use Rattle.std.specs.Io.KnownBytes.{IsAtEnd};
-ghost use Rattle.node_session.specs.Answered.{AnsweredInput};
-ghost use Rattle.node_session.specs.Session.{Given, IsInputEnd, IsTooManyReads, MadeReads, Stops};
+ghost use Rattle.node_session.specs.Session.{EndsInput, Given, StopsInput};
+ghost use Rattle.node_session.specs.Streams.{source_of};
 
 use crate::ended::Ended;
 use crate::fault::SessionFault;
 use crate::node::Node;
 use crate::scratch::Scratch;
 use crate::session::Session;
+use crate::transport::Plain;
 use std::alloc::Global;
 use std::io::{Read, Write};
 
@@ -35,21 +36,15 @@ pub fn serve<R: Read, W: Write, N: Node>(
 
     // What was written is the output for what was read, and all of it was read.
     ensures ended { IfOk result (λ e.
-        Given (R.remaining reader.old) (R.remaining reader.new) reads (λ input.
-        AnsweredInput N.step node.old input (W.contents writer.old) (W.contents writer.new)
-        e.replies (IsInputEnd node.new e.rest))) }
+        Given (source_of (R.remaining reader.old)) (source_of (R.remaining reader.new)) reads
+        (EndsInput N.step node.old node.new (W.contents writer.old) (W.contents writer.new) e)) }
     ensures all { IfOk result (λ _. IsAtEnd (R.remaining reader.new)) }
 
     // What was written is the output for what was read, as far as the fault lets it come.
     ensures stopped { IfErr result (λ fault.
-        Given (R.remaining reader.old) (R.remaining reader.new) reads (λ input.
-        Stops N.step node.old node.new input
-        (W.contents writer.old) (W.contents writer.new) fault)) }
-
-    // Too many reads are a fault only after all were made, each of which gave a byte at least or was
-    // interrupted. No clause sees how many were interrupted, so this one bounds nothing.
-    ensures too_many { IfErr result (λ fault. IsTooManyReads fault
-        → MadeReads (R.remaining reader.old) (R.remaining reader.new) reads) }
+        Given (source_of (R.remaining reader.old)) (source_of (R.remaining reader.new)) reads
+        (StopsInput N.step node.old node.new
+        (W.contents writer.old) (W.contents writer.new) reads fault)) }
 {
     let mut session = Session::new(alloc, reads);
     let mut scratch = Scratch::new(alloc);
@@ -57,8 +52,6 @@ pub fn serve<R: Read, W: Write, N: Node>(
         if let Some(result) = session.outcome() {
             return result;
         }
-        if session.step(alloc, reader, writer, node, &mut scratch) {
-            session.stop::<N>();
-        }
+        session.step::<N, Plain, R, W>(alloc, reader, writer, node, &mut scratch, false);
     }
 }

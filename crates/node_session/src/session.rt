@@ -1,12 +1,12 @@
 //! A session in steps.
-ghost use Rattle.std.specs.Prelude.{◌≡◌, ◌<◌, ◌≤◌, [], ℕ, List, Option, None, length, true, false};
+ghost use Rattle.std.specs.Prelude.{◌≡◌, ◌<◌, ◌≤◌, [], None, length, true, false};
 ghost use Rattle.std.specs.Prelude.{IfNone, IfSome};
-ghost use Rattle.std.specs.Io.KnownBytes.{Keeps};
 ghost use Rattle.pb_frame.specs.Limits.{max_request_len};
 ghost use Rattle.pb_frame.specs.Message.{IsPartial};
 ghost use Rattle.node_session.specs.Views.{nothing_read};
 ghost use Rattle.node_session.specs.Stages.{Came, IsOverBy, Goes, Fits, IsGoing, CanWait, IsOver};
-ghost use Rattle.node_session.specs.Stages.{weight};
+ghost use Rattle.node_session.specs.Stages.{weight, Waits};
+ghost use Rattle.node_session.specs.Streams.{SourceView, TargetView, Holds};
 ghost use Rattle.node_session.specs.declared.stage.Stage.TheVariants.{Answering, Sending, Telling};
 ghost use Rattle.node_session.specs.declared.stage.Stage.TheVariants.{Flushing, Reading, Closing};
 ghost use Rattle.node_session.specs.declared.stage.Stage.TheVariants.{Over};
@@ -17,19 +17,18 @@ use crate::fault::SessionFault;
 use crate::node::Node;
 use crate::scratch::Scratch;
 use crate::stage::Stage;
-use pb_frame::{Flushed, Wrote, try_flush, try_write};
+use crate::transport::{Flushed, Sent, Transport, try_flush, try_send};
 use std::alloc::Global;
-use std::io::{Read, Write};
 
 /// A session in steps, which knows neither its streams nor its node: these are lent to each step, and so
 /// is the room for what it reads and replies.
 ///
 /// ```text
 /// let mut session = Session::new(alloc, 1000);                            // 1,000 reads at most
-/// session.step(alloc, &mut reader, &mut writer, &mut node, &mut scratch)    // false: nothing has come, so it flushes; then it reads, answers, writes
-/// session.step(alloc, &mut reader, &mut writer, &mut node, &mut scratch)    // true, once a stream would have to wait: call again when it is ready,
-/// session.stop::<N>()                                                     // or end the session there
-/// session.outcome()                                                       // Some(Err(SessionFault::ReadFailed(0)))
+/// session.step(alloc, &mut reader, &mut writer, &mut node, &mut scratch, true)  // false: nothing has come, so it flushes; then it reads, answers, writes
+/// session.step(alloc, &mut reader, &mut writer, &mut node, &mut scratch, true)  // true, once a stream would have to wait: call again when it is ready,
+/// session.step(alloc, &mut reader, &mut writer, &mut node, &mut scratch, false) // or end the session there
+/// session.outcome()                                                           // Some(Err(SessionFault::ReadFailed(0)))
 /// ```
 #[derive(Drop)]
 pub struct Session {
@@ -79,53 +78,44 @@ impl Session {
     }
 
     /// Takes one step: it answers one message, or calls one stream once. True where that stream would
-    /// have to wait; then nothing is done.
+    /// have to wait, and may: then nothing is done. Where it may not, that counts as a failure of the
+    /// stream.
     #[inline(always)]
-    pub fn step<N: Node, R: Read, W: Write>(
+    pub fn step<N: Node, T: Transport<R, W>, R, W>(
         &mut self,
         alloc: Global,
         reader: &mut R,
         writer: &mut W,
         node: &mut N,
         scratch: &mut Scratch,
+        may_wait: bool,
     ) -> bool
         requires going { IsGoing self.old.stage }
         requires fits { Fits self.old.stage self.old }
         ensures goes { Goes N.step node.old node.new
-            (R.remaining reader.old) (R.remaining reader.new)
-            (W.contents writer.old) (W.contents writer.new)
+            (T.source reader.old) (T.source reader.new)
+            (T.target writer.old) (T.target writer.new)
             self.old.stage self.old self.new.stage self.new }
         ensures fits { Fits self.new.stage self.new }
         ensures less { result ≡ false
             → weight self.new.stage self.new < weight self.old.stage self.old }
-        ensures waits { result ≡ true → CanWait self.new.stage self.new.buffers }
+        ensures waits { may_wait ≡ false → result ≡ false }
         ensures still { result ≡ true → self.new ≡ self.old }
         ensures most { self.new.most ≡ self.old.most }
     {
-        match self.advance(alloc, reader, writer, node, scratch) {
+        match self.advance::<N, T, R, W>(alloc, reader, writer, node, scratch) {
             Some(stage) => {
                 self.stage = stage;
                 false
             }
-            None => true,
+            None => {
+                if !may_wait {
+                    let result = self.outcome_of_waiting::<N>();
+                    self.stage = Stage::Over(result);
+                }
+                may_wait
+            }
         }
-    }
-
-    /// Ends a session whose stream would have to wait, where nobody waits for it: that counts as a
-    /// failure of the stream.
-    pub fn stop<N: Node>(&mut self)
-        requires { CanWait self.old.stage self.old.buffers }
-        ensures goes { (first now : N) (unread unread' held held' : Option (List ℕ))
-            → Came N.step first now unread unread' held held' self.old.stage self.old
-            → Came N.step first now unread unread' held held' self.new.stage self.new }
-        ensures over { IsOver self.new.stage }
-        ensures less { weight self.new.stage self.new < weight self.old.stage self.old }
-        ensures rest { self.new ≡ record self.old { stage = self.new.stage } }
-        ensures most { self.new.most ≡ self.old.most }
-        ensures fits { Fits self.new.stage self.new }
-    {
-        let result = self.outcome_of_waiting::<N>();
-        self.stage = Stage::Over(result);
     }
 
     /// Lets it go, and gives back the room that was lent to it: where a session is over before all of its
@@ -145,8 +135,8 @@ impl Session {
     #[inline(always)]
     fn answer<N: Node>(&mut self, alloc: Global, node: &mut N, scratch: &mut Scratch) -> Stage
         requires { Fits Answering self.old }
-        ensures goes { (unread held : Option (List ℕ)) → Goes N.step node.old node.new
-            unread unread held held Answering self.old result self.new }
+        ensures goes { (source : SourceView) (target : TargetView) → Goes N.step node.old node.new
+            source source target target Answering self.old result self.new }
         ensures fits { Fits result self.new }
         ensures less { weight result self.new < weight Answering self.old }
         ensures most { self.new.most ≡ self.old.most }
@@ -164,22 +154,22 @@ impl Session {
     /// Writes some of the reply to the last message; once all of it is written, the next one may be
     /// answered. None where the writer would have to wait.
     #[inline(always)]
-    fn send<N: Node, W: Write>(&mut self, writer: &mut W) -> Option<Stage>
+    fn send<N: Node, T: Transport<R, W>, R, W>(&mut self, writer: &mut W) -> Option<Stage>
         requires { Fits Sending self.old }
-        ensures goes { IfSome result (λ stage. (now : N) (unread : Option (List ℕ)) → Goes N.step
-            now now unread unread (W.contents writer.old) (W.contents writer.new)
+        ensures goes { IfSome result (λ stage. (now : N) (source : SourceView) → Goes N.step
+            now now source source (T.target writer.old) (T.target writer.new)
             Sending self.old stage self.new) }
         ensures fits { IfSome result (λ stage. Fits stage self.new) }
         ensures less { IfSome result (λ stage.
             weight stage self.new < weight Sending self.old) }
         ensures most { self.new.most ≡ self.old.most }
         ensures waits { IfNone result ((self.new ≡ self.old)
-            × Keeps (W.contents writer.old) (W.contents writer.new)
+            × Holds (T.target writer.old) (T.target writer.new)
             × (0 < length self.new.buffers.unsent)) }
     {
         self.buffers.is_read();
-        match try_write(writer, self.buffers.pending()) {
-            Wrote::Bytes(n) => {
+        match try_send::<T, R, W>(writer, self.buffers.pending()) {
+            Sent::Bytes(n) => {
                 self.buffers.sent(n);
                 if self.buffers.waiting() > 0 {
                     return Some(Stage::Sending);
@@ -187,57 +177,57 @@ impl Session {
                 self.replies = self.replies.saturating_add(1);
                 Some(Stage::Answering)
             }
-            Wrote::Blocked => None,
-            Wrote::Failed => Some(Stage::Over(Err(SessionFault::WriteFailed(self.replies)))),
+            Sent::Blocked => None,
+            Sent::Failed => Some(Stage::Over(Err(SessionFault::WriteFailed(self.replies)))),
         }
     }
 
     /// Writes some of the error for a bad length. None where the writer would have to wait.
-    fn tell<N: Node, W: Write>(&mut self, writer: &mut W) -> Option<Stage>
-        ensures goes { IfSome result (λ stage. (now : N) (unread : Option (List ℕ)) → Goes N.step
-            now now unread unread (W.contents writer.old) (W.contents writer.new)
+    fn tell<N: Node, T: Transport<R, W>, R, W>(&mut self, writer: &mut W) -> Option<Stage>
+        ensures goes { IfSome result (λ stage. (now : N) (source : SourceView) → Goes N.step
+            now now source source (T.target writer.old) (T.target writer.new)
             Telling self.old stage self.new) }
         ensures fits { IfSome result (λ stage. Fits stage self.new) }
         ensures less { IfSome result (λ stage.
             weight stage self.new < weight Telling self.old) }
         ensures most { self.new.most ≡ self.old.most }
         ensures waits { IfNone result ((self.new ≡ self.old)
-            × Keeps (W.contents writer.old) (W.contents writer.new)
+            × Holds (T.target writer.old) (T.target writer.new)
             × (0 < length self.new.buffers.unsent)) }
     {
         let replies = self.replies;
         if self.buffers.pending().is_empty() {
             return Some(Stage::Closing(SessionFault::BadFrame(replies)));
         }
-        match try_write(writer, self.buffers.pending()) {
-            Wrote::Bytes(n) => {
+        match try_send::<T, R, W>(writer, self.buffers.pending()) {
+            Sent::Bytes(n) => {
                 self.buffers.sent(n);
                 Some(Stage::Telling)
             }
-            Wrote::Blocked => None,
-            Wrote::Failed => Some(Stage::Over(Err(SessionFault::WriteFailed(replies)))),
+            Sent::Blocked => None,
+            Sent::Failed => Some(Stage::Over(Err(SessionFault::WriteFailed(replies)))),
         }
     }
 
     /// Has what was written flushed, where a further read may be made. None where the writer would have to wait.
     #[inline(always)]
-    fn flush<N: Node, W: Write>(&mut self, writer: &mut W) -> Option<Stage>
+    fn flush<N: Node, T: Transport<R, W>, R, W>(&mut self, writer: &mut W) -> Option<Stage>
         requires { Fits Flushing self.old }
-        ensures goes { IfSome result (λ stage. (now : N) (unread : Option (List ℕ)) → Goes N.step
-            now now unread unread (W.contents writer.old) (W.contents writer.new)
+        ensures goes { IfSome result (λ stage. (now : N) (source : SourceView) → Goes N.step
+            now now source source (T.target writer.old) (T.target writer.new)
             Flushing self.old stage self.new) }
         ensures fits { IfSome result (λ stage. Fits stage self.new) }
         ensures less { IfSome result (λ stage.
             weight stage self.new < weight Flushing self.old) }
         ensures most { self.new.most ≡ self.old.most }
         ensures waits { IfNone result ((self.new ≡ self.old)
-            × Keeps (W.contents writer.old) (W.contents writer.new)) }
+            × Holds (T.target writer.old) (T.target writer.new)) }
     {
         self.buffers.is_read();
         if self.made >= self.most {
             return Some(Stage::Closing(SessionFault::TooManyReads(self.replies)));
         }
-        match try_flush(writer) {
+        match try_flush::<T, R, W>(writer) {
             Flushed::Done => Some(Stage::Reading),
             Flushed::Blocked => None,
             Flushed::Failed => Some(Stage::Over(Err(SessionFault::WriteFailed(self.replies)))),
@@ -245,18 +235,22 @@ impl Session {
     }
 
     /// Has what was written flushed, as far as that can be done. None where the writer would have to wait.
-    fn close<N: Node, W: Write>(&mut self, writer: &mut W, fault: SessionFault) -> Option<Stage>
-        ensures goes { IfSome result (λ stage. (now : N) (unread : Option (List ℕ)) → Goes N.step
-            now now unread unread (W.contents writer.old) (W.contents writer.new)
+    fn close<N: Node, T: Transport<R, W>, R, W>(
+        &mut self,
+        writer: &mut W,
+        fault: SessionFault,
+    ) -> Option<Stage>
+        ensures goes { IfSome result (λ stage. (now : N) (source : SourceView) → Goes N.step
+            now now source source (T.target writer.old) (T.target writer.new)
             (Closing fault) self.old stage self.new) }
         ensures fits { IfSome result (λ stage. Fits stage self.new) }
         ensures less { IfSome result (λ stage.
             weight stage self.new < weight (Closing fault) self.old) }
         ensures most { self.new.most ≡ self.old.most }
         ensures waits { IfNone result ((self.new ≡ self.old)
-            × Keeps (W.contents writer.old) (W.contents writer.new)) }
+            × Holds (T.target writer.old) (T.target writer.new)) }
     {
-        match try_flush(writer) {
+        match try_flush::<T, R, W>(writer) {
             Flushed::Done => Some(Stage::Over(Err(fault))),
             Flushed::Blocked => None,
             Flushed::Failed => Some(Stage::Over(Err(fault))),
@@ -266,7 +260,7 @@ impl Session {
     /// Takes one step from a stage that isn't the last one. The stage to which it comes; None where a
     /// stream would have to wait.
     #[inline(always)]
-    fn advance<N: Node, R: Read, W: Write>(
+    fn advance<N: Node, T: Transport<R, W>, R, W>(
         &mut self,
         alloc: Global,
         reader: &mut R,
@@ -277,23 +271,23 @@ impl Session {
         requires going { IsGoing self.old.stage }
         requires fits { Fits self.old.stage self.old }
         ensures goes { IfSome result (λ to. Goes N.step node.old node.new
-            (R.remaining reader.old) (R.remaining reader.new)
-            (W.contents writer.old) (W.contents writer.new)
+            (T.source reader.old) (T.source reader.new)
+            (T.target writer.old) (T.target writer.new)
             self.old.stage self.old to self.new) }
         ensures fits { IfSome result (λ to. Fits to self.new) }
         ensures less { IfSome result (λ to.
             weight to self.new < weight self.old.stage self.old) }
         ensures waits { IfNone result ((self.new ≡ self.old) × (node.new ≡ node.old)
-            × Keeps (R.remaining reader.old) (R.remaining reader.new)
-            × Keeps (W.contents writer.old) (W.contents writer.new)
+            × Waits self.old.stage (T.source reader.old) (T.source reader.new)
+            (T.target writer.old) (T.target writer.new)
             × CanWait self.old.stage self.new.buffers) }
         ensures most { self.new.most ≡ self.old.most }
     {
         match self.stage {
             Stage::Answering => Some(self.answer(alloc, node, scratch)),
-            Stage::Sending => self.send::<N, W>(writer),
-            Stage::Telling => self.tell::<N, W>(writer),
-            Stage::Flushing => self.flush::<N, W>(writer),
+            Stage::Sending => self.send::<N, T, R, W>(writer),
+            Stage::Telling => self.tell::<N, T, R, W>(writer),
+            Stage::Flushing => self.flush::<N, T, R, W>(writer),
             Stage::Reading => {
                 let Scratch {
                     piece,
@@ -301,20 +295,22 @@ impl Session {
                     requests,
                     ..
                 } = scratch;
-                self.read_some::<N, R>(alloc, reader, &*node, piece, long_piece, requests)
+                self.read_some::<N, T, R, W>(alloc, reader, &*node, piece, long_piece, requests)
             }
-            Stage::Closing(fault) => self.close::<N, W>(writer, fault),
+            Stage::Closing(fault) => self.close::<N, T, R, W>(writer, fault),
             Stage::Over(_) => unreachable!(),
         }
     }
 
-    /// What comes of a session whose stream would have to wait, where nobody waits for it: that counts as
-    /// a failure of the stream.
+    /// What comes of a session whose stream would have to wait and may not: that counts as a failure of
+    /// the stream.
     fn outcome_of_waiting<N: Node>(&self) -> Result<Ended, SessionFault>
         requires { CanWait self.now.stage self.now.buffers }
-        ensures { (first now : N) (unread unread' held held' : Option (List ℕ))
-            → Came N.step first now unread unread' held held' self.now.stage self.now
-            → IsOverBy N.step first now unread unread' held held' self.now.most result }
+        ensures { (first now : N) (source source' source'' : SourceView)
+            (target target' target'' : TargetView)
+            → Waits self.now.stage source' source'' target' target''
+            → Came N.step first now source source' target target' self.now.stage self.now
+            → IsOverBy N.step first now source source'' target target'' self.now.most result }
     {
         self.buffers.is_read();
         match self.stage {

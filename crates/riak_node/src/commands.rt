@@ -3,8 +3,9 @@
 ghost use Rattle.std.specs.Prelude.{◌≡◌, ◌⊎◌, ◌^◌, Some, None, IfOk, IfErr};
 ghost use Rattle.ring_map.specs.Ring.{IsRingSize};
 ghost use Rattle.std.specs.Io.KnownBytes.{IsAtEnd};
-ghost use Rattle.node_session.specs.Session.{Given, IsTooManyReads, MadeReads};
+ghost use Rattle.node_session.specs.Session.{Given};
 ghost use Rattle.node_session.specs.Pipes.{PipeEnds, PipeStops, IsNotBegun};
+ghost use Rattle.node_session.specs.Streams.{source_of};
 ghost use Rattle.schedule_player.specs.Played.{Played, start_on};
 
 use crate::conclusion::Conclusion;
@@ -67,18 +68,16 @@ pub(crate) fn pipe_as_asked<R: Read, W: Write>(
 ) -> Result<Ended, SessionFault>
     // As `pipe` says, of this run and this budget.
     ensures ended { IfOk result (λ e.
-        Given (R.remaining reader.old) (R.remaining reader.new) (2 ^ 32) (λ input.
-        PipeEnds options.run ring options.sweep input
-        (W.contents writer.old) (W.contents writer.new) e.replies e.rest)) }
+        Given (source_of (R.remaining reader.old)) (source_of (R.remaining reader.new)) (2 ^ 32)
+        (PipeEnds options.run ring options.sweep
+        (W.contents writer.old) (W.contents writer.new) e)) }
     ensures all { IfOk result (λ _. IsAtEnd (R.remaining reader.new)) }
     ensures stopped { IfErr result (λ fault.
         IsNotBegun (R.remaining reader.old) (R.remaining reader.new)
         (W.contents writer.old) (W.contents writer.new) fault
-        ⊎ Given (R.remaining reader.old) (R.remaining reader.new) (2 ^ 32) (λ input.
-        PipeStops options.run ring options.sweep input
-        (W.contents writer.old) (W.contents writer.new) fault)) }
-    ensures too_many { IfErr result (λ fault. IsTooManyReads fault
-        → MadeReads (R.remaining reader.old) (R.remaining reader.new) (2 ^ 32)) }
+        ⊎ Given (source_of (R.remaining reader.old)) (source_of (R.remaining reader.new)) (2 ^ 32)
+        (PipeStops options.run ring options.sweep
+        (W.contents writer.old) (W.contents writer.new) (2 ^ 32) fault)) }
 {
     let PipeOptions { run, sweep, .. } = options;
     pipe(alloc, ring, run, sweep, reader, writer)

@@ -6,6 +6,7 @@ use Rattle.job_pool.specs.Lists.{Every, Pairwise, concat}
 use Rattle.job_pool.specs.Turns.{ServedTurn, WorkerTurns, TurnChain, IsChain, firsts_of, lasts_of}
 use Rattle.job_pool.specs.Ends.{IsTurnOfGiven, IsTold, told_by, weight_told}
 use Rattle.job_pool.specs.declared.worker.NumberedEnd.{NumberedEnd}
+use Rattle.node_session.specs.Streams.{SourceView, TargetView}
 use Rattle.stats_book.specs.Counting.{both, number_of, sum_of, zeros}
 use Rattle.stats_book.specs.declared.quantity.Quantity.{Quantity}
 use Rattle.stats_book.specs.declared.quantity.Quantity.TheVariants.{Gets, Puts, Deletes, Refusals, Reaps}
@@ -94,15 +95,15 @@ module _ {R W : Type 0} where
   weight_rested_append w [] ys = omega arith
   weight_rested_append w (x ∷ xs) ys = let rest = weight_rested_append w xs ys in omega (arith, rest)
 
-module _ {R W : Type 0} (may_rest : Type 0) (remaining : R → Option (List ℕ)) (contents : W → Option (List ℕ)) (shared : Gates) (given : List (PausedSessionView R W)) (seen : Sights) where
+module _ {R W : Type 0} (may_rest : Type 0) (source : R → SourceView) (target : W → TargetView) (shared : Gates) (given : List (PausedSessionView R W)) (seen : Sights) where
   abbrev Counts : Totals → PausedSessionView R W → Totals → LeftSession R W → Type 0
-  Counts = CountsInOpenSession may_rest remaining contents shared
+  Counts = CountsInOpenSession may_rest source target shared
 
   abbrev IsEnded : ToldSession R W → Type 0
-  IsEnded = IsToldSession remaining contents shared given seen
+  IsEnded = IsToldSession source target shared given seen
 
   abbrev IsRested : RestedSession R W → Type 0
-  IsRested = IsRestedSession remaining contents shared given may_rest
+  IsRested = IsRestedSession source target shared given may_rest
 
   -- these sessions were told so, and these rest; these are all, and counted so much
   pub record AreGathered (told : List (NumberedEnd (LeftSession R W))) (tells : List (NumberedEnd (SessionEnd R W))) (resting : List (PausedSessionView R W)) (counted : Totals) : Type 0 where
@@ -121,7 +122,7 @@ module _ {R W : Type 0} (may_rest : Type 0) (remaining : R → Option (List ℕ)
 
   -- one more in front
   front : (number : ℕ) (session : PausedSessionView R W) (one : NumberedEnd (LeftSession R W)) (left : Left R W) (counted more : Totals) (told : List (NumberedEnd (LeftSession R W))) → one.number ≡ number → slice_get given number ≡ Some session
-      → LeavesSession remaining contents shared RunStep session counted false left → RestsWhere may_rest left → HaveSeenLeft seen left
+      → LeavesSession source target shared RunStep session counted false left → RestsWhere may_rest left → HaveSeenLeft seen left
       → AreGathered told (ends_in told) (resting_in told) more → AreGathered (one ∷ told) (ends_more number left (ends_in told)) (rests_more left (resting_in told)) (both counted more)
   front number session one (Ended ended) counted more told named is leaves rests covered h =
       let origin : ended.origin ≡ session.origin = leaves.ends.from in
@@ -130,7 +131,7 @@ module _ {R W : Type 0} (may_rest : Type 0) (remaining : R → Option (List ℕ)
         ended = record { number = number; session = session; end = end_of ended; passes = ended.passes; counted = counted } ∷ h.ended;
         rested = h.rested;
         tells_are = ap (λ l. record { number = number; end = end_of ended } ∷ l) h.tells_are;
-        each = (record { given_as = is; ends = subst (λ (e : EndedSession R W). IsEndOf remaining contents shared RunStep session counted false e) same leaves; covered = covered }, h.each);
+        each = (record { given_as = is; ends = subst (λ (e : EndedSession R W). IsEndOf source target shared RunStep session counted false e) same leaves; covered = covered }, h.each);
         rests = h.rests;
         each_rests = h.each_rests;
         weighs = λ w. let rest = h.weighs w in let here : w one.number ≡ w number = ap w named in omega (arith, rest, here);
@@ -159,7 +160,7 @@ module _ {R W : Type 0} (may_rest : Type 0) (remaining : R → Option (List ℕ)
       let flags = or_false one.end.book_full (is_full told) whole in
       let rest = worker_gathered turn.after last turns told chain.2 h.1 flags.1 saw.1 in
       let here : Counts turn.before turn.job turn.after one.end = subst (λ (e : LeftSession R W). Counts turn.before turn.job turn.after e) h.0.end chain.1 in
-      let leaves = subst (λ (full : Bool). LeavesSession remaining contents shared RunStep turn.job here.counted full one.end.left) flags.0 here.leaves in (
+      let leaves = subst (λ (full : Bool). LeavesSession source target shared RunStep turn.job here.counted full one.end.left) flags.0 here.leaves in (
         both here.counted rest.0,
         rest.1 ∙ ap (λ (t : Totals). both t rest.0) (here.raised ∙ ap (λ (t : Totals). both t here.counted) chain.0) ∙ both_assoc first here.counted rest.0,
         front one.number turn.job one one.end.left here.counted rest.0 told refl h.0.at leaves here.rests saw.0 rest.2,

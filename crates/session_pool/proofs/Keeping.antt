@@ -1,6 +1,7 @@
 -- What each step of a node keeps, a session keeps, however far it has come, and however it ends.
 use Rattle.std.proofs.Common.{◌≡◌, ◌∙◌, ◌⊎◌, ℕ, List, [], ◌∷◌, ap, inl, inr}
 use Rattle.std.specs.Prelude.{Option, Result, Ok, Err}
+use Rattle.node_session.specs.Streams.{SourceView, TargetView, input_of}
 use Rattle.node_session.specs.SessionLaws.{CodedMessage}
 use Rattle.riak_msgs.specs.declared.fault.MsgFault.{MsgFault}
 use Rattle.riak_msgs.specs.declared.Request.{Request}
@@ -53,16 +54,16 @@ module _ {S A : Type 0} (Step : S → Request → Reply → S → Type 0) (part 
   stops_keep old new input held held' (TooManyReads count) h = same h.mid new h.ends.node ∙ run_keeps old h.messages h.replies h.mid h.run
   stops_keep old new input held held' (NoMemory count) h = memory_keeps new h.mid h.rest h.last h.ends.1 ∙ run_keeps old h.messages h.replies h.mid h.run
 
-  module _ (first now : S) (unread unread' held held' : Option (List ℕ)) where
-    pub over_keeps : (most : ℕ) (result : Result Ended SessionFault) → IsOverBy Step first now unread unread' held held' most result → part now ≡ part first
-    over_keeps most (Ok ended) h = let s = h.0.serves in same s.mid now s.ends.through.node ∙ run_keeps first s.messages s.replies s.mid s.run
-    over_keeps most (Err fault) h = stops_keep first now h.0.input held held' fault h.0.serves
+  module _ (first now : S) (source source' : SourceView) (target target' : TargetView) where
+    pub over_keeps : (most : ℕ) (result : Result Ended SessionFault) → IsOverBy Step first now source source' target target' most result → part now ≡ part first
+    over_keeps most (Ok ended) h = let s = h.0.serves.0 in same s.mid now s.ends.through.node ∙ run_keeps first s.messages s.replies s.mid s.run
+    over_keeps most (Err fault) h = stops_keep first now (input_of h.0.noted) target.contents target'.contents fault h.0.serves.0
 
-    pub came_keeps : (stage : Stage) (session : Session) → Came Step first now unread unread' held held' stage session → part now ≡ part first
+    pub came_keeps : (stage : Stage) (session : Session) → Came Step first now source source' target target' stage session → part now ≡ part first
     came_keeps Answering session h = run_keeps first _ _ now h.stands.run
     came_keeps Sending session h = read_keeps h.mid h.one.answers.said h.one.exchange.reply now h.one.answers.answers ∙ run_keeps first _ _ h.mid h.stands.run
     came_keeps Telling session h = run_keeps first _ _ now h.stands.run
     came_keeps Flushing session h = run_keeps first _ _ now h.answering.stands.run
-    came_keeps Reading session h = run_keeps first _ _ now h.answering.stands.run
+    came_keeps Reading session h = run_keeps first _ _ now h.idle.answering.stands.run
     came_keeps (Closing fault) session h = over_keeps session.most (Err fault) h
     came_keeps (Over result) session h = over_keeps session.most result h

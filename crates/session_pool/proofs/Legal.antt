@@ -5,9 +5,11 @@ use Rattle.std.specs.Prelude.{false, Option, Some, Result, Ok, Err, slice_get, s
 use Rattle.std.specs.List.{AllZip}
 use Rattle.riak_msgs.specs.declared.Request.{Request}
 use Rattle.riak_msgs.specs.declared.Reply.{Reply}
+use Rattle.node_session.specs.Streams.{SourceView, TargetView, input_of}
 use Rattle.node_session.specs.Stages.{IsOverBy}
 use Rattle.node_session.specs.declared.ended.Ended.{Ended}
 use Rattle.node_session.specs.declared.fault.SessionFault.{SessionFault}
+use Rattle.node_session.proofs.Streaming.{given_as}
 use Rattle.gate_node.specs.Gates.{Gates, HandoffView, AreNone}
 use Rattle.gate_node.specs.GateStep.{NodeOverGates}
 use Rattle.gate_node.specs.OneHistory.{IsSeen}
@@ -55,16 +57,16 @@ module _ (histories : List GateHistory) (shared : Gates) (none : AreNone shared.
       let same : on ≡ old = λ i. record { shared = here i; passes = goes.passes i; count = goes.count i } in
       subst (λ (node : NodeOverGates). AnswersAsRegister shared histories node request reply new) same (plain_step shared histories on request reply new none are (sym there) h.3)
 
-module _ {R W : Type 0} (remaining : R → Option (List ℕ)) (contents : W → Option (List ℕ)) (histories : List GateHistory) (shared : Gates) where
-  over_at : (origin : Origin) (after : NodeOverGates) (u u' h h' : Option (List ℕ)) (most : ℕ) (result : Result Ended SessionFault) → AllZip IsSeen histories after.passes.primaries × IsLater after.shared shared
+module _ {R W : Type 0} (source : R → SourceView) (target : W → TargetView) (histories : List GateHistory) (shared : Gates) where
+  over_at : (origin : Origin) (after : NodeOverGates) (u u' : SourceView) (h h' : TargetView) (most : ℕ) (result : Result Ended SessionFault) → AllZip IsSeen histories after.passes.primaries × IsLater after.shared shared
       → IsOverBy RunStep (first_node origin) after u u' h h' most result → IsOverBy (RunStepIn histories shared) (first_node origin) after u u' h h' most result
   over_at origin after u u' h h' most (Ok e) reaches p =
-      (record { input = p.0.input; read = p.0.read; bound = p.0.bound; serves = end_at histories shared (first_node origin) after p.0.input h h' e.replies e.rest p.0.serves reaches }, p.1)
+      (given_as u u' most _ _ (λ noted served. (end_at histories shared (first_node origin) after (input_of noted) h.contents h'.contents e.replies e.rest served.0 reaches, served.1)) p.0, p.1, p.2, p.3)
   over_at origin after u u' h h' most (Err fault) reaches p =
-      (record { input = p.0.input; read = p.0.read; bound = p.0.bound; serves = stop_at histories shared (first_node origin) after p.0.input h h' fault p.0.serves reaches }, p.1)
+      (given_as u u' most _ _ (λ noted served. (stop_at histories shared (first_node origin) after (input_of noted) h.contents h'.contents fault served.0 reaches, served.1)) p.0, p.1)
 
   -- a session whose passes have seen beginnings of histories is by steps in these
-  pub ends_at : (origin : Origin) (ended : EndedSession R W) (after : NodeOverGates) → AllZip IsSeen histories ended.passes.primaries → EndsOver remaining contents shared RunStep origin ended after → EndsOver remaining contents shared (RunStepIn histories shared) origin ended after
+  pub ends_at : (origin : Origin) (ended : EndedSession R W) (after : NodeOverGates) → AllZip IsSeen histories ended.passes.primaries → EndsOver source target shared RunStep origin ended after → EndsOver source target shared (RunStepIn histories shared) origin ended after
   ends_at origin ended after saw h =
       let reaches : AllZip IsSeen histories after.passes.primaries × IsLater after.shared shared = (subst (λ (ps : Sights). AllZip IsSeen histories ps.primaries) (sym h.left) saw, h.reaches) in
       record {
@@ -73,11 +75,11 @@ module _ {R W : Type 0} (remaining : R → Option (List ℕ)) (contents : W → 
         reaches = h.reaches;
         left = h.left;
         kept = h.kept;
-        session = over_at origin after origin.unread (remaining ended.reader) origin.held (contents ended.writer) origin.gates.reads ended.result reaches h.session;
+        session = over_at origin after origin.source (source ended.reader) origin.target (target ended.writer) origin.gates.reads ended.result reaches h.session;
       }
 
-  pub told_at : (given : List (PausedSessionView R W)) (seen : Sights) (one : ToldSession R W) → AllZip IsSeen histories seen.primaries → IsToldSession remaining contents shared given seen one
-      → IsEndOf remaining contents shared (RunStepIn histories shared) one.session one.counted false (with_passes one.end one.passes one.session.origin)
+  pub told_at : (given : List (PausedSessionView R W)) (seen : Sights) (one : ToldSession R W) → AllZip IsSeen histories seen.primaries → IsToldSession source target shared given seen one
+      → IsEndOf source target shared (RunStepIn histories shared) one.session one.counted false (with_passes one.end one.passes one.session.origin)
   told_at given seen one saw h = record {
     after = h.ends.after;
     ends = ends_at one.session.origin (with_passes one.end one.passes one.session.origin) h.ends.after (seen_less histories seen.primaries one.passes.primaries saw h.covered) h.ends.ends;
@@ -85,14 +87,14 @@ module _ {R W : Type 0} (remaining : R → Option (List ℕ)) (contents : W → 
     room = h.ends.room;
   }
 
-pub told_is_legal : {R W : Type 0} (remaining : R → Option (List ℕ)) (contents : W → Option (List ℕ)) (shared : Gates) (given : List (PausedSessionView R W)) (seen : Sights) (one : ToldSession R W) → ToldSessionIsLegal remaining contents shared given seen one
-told_is_legal remaining contents shared given seen one tallies count_all new none all kept shares h =
+pub told_is_legal : {R W : Type 0} (source : R → SourceView) (target : W → TargetView) (shared : Gates) (given : List (PausedSessionView R W)) (seen : Sights) (one : ToldSession R W) → ToldSessionIsLegal source target shared given seen one
+told_is_legal source target shared given seen one tallies count_all new none all kept shares h =
     let histories = shares.histories in
     let plain = tallies_plain shared histories tallies new none shares.of_gates shares.tallied (shares.counted all) in
     let Kept : Sights → Type 0 = λ sights. ArePassesOf shared sights in
     let callers = All-cons Kept seen [] kept (All-nil Kept) in
     let saw = All-head (λ (sights : Sights). AllZip IsSeen histories sights.primaries) seen [] (each_seen (λ (s : Sights). s) shared histories shares.of_gates (seen ∷ []) callers shares.seen) in
-    let at = told_at remaining contents histories shared given seen one saw h in
+    let at = told_at source target histories shared given seen one saw h in
     let ended = with_passes one.end one.passes one.session.origin in
     record {
       legal = plain.legal;
@@ -104,7 +106,7 @@ told_is_legal remaining contents shared given seen one tallies count_all new non
           reaches = at.ends.reaches;
           left = at.ends.left;
           kept = at.ends.kept;
-          session = over_by (RunStepIn histories shared) (AnswersAsRegister shared histories) (λ node. node) (step_as histories shared none plain.commands) (first_node one.session.origin) at.after one.session.origin.unread (remaining one.end.reader) one.session.origin.held (contents one.end.writer) one.session.origin.gates.reads one.end.result at.ends.session;
+          session = over_by (RunStepIn histories shared) (AnswersAsRegister shared histories) (λ node. node) (step_as histories shared none plain.commands) (first_node one.session.origin) at.after one.session.origin.source (source one.end.reader) one.session.origin.target (target one.end.writer) one.session.origin.gates.reads one.end.result at.ends.session;
         };
         counts = at.counts;
         room = at.room;

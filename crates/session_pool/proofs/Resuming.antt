@@ -99,10 +99,10 @@ module _ (histories : List GateHistory) (shared : Gates) where
   module _ (old new : NodeOverGates) (input : List ℕ) (held held' : Option (List ℕ)) where
     pub end_at : (count len : ℕ) → AnsweredInput RunStep old input held held' count (IsInputEnd new len) → Reaches new → AnsweredInput (RunStepIn histories shared) old input held held' count (IsInputEnd new len)
     end_at count len h reaches =
-        end_by HeldStep (RunStepIn histories shared) (λ node. node) step_in old new held held held held' input count len
+        end_by HeldStep (RunStepIn histories shared) (λ node. node) step_in old new held held' input count len
         (end_in RunStep Reaches reached_before old new input held held' count len h reaches)
 
     pub stop_at : (fault : SessionFault) → Stops RunStep old new input held held' fault → Reaches new → Stops (RunStepIn histories shared) old new input held held' fault
     stop_at fault h reaches =
-        stops_by HeldStep (RunStepIn histories shared) (λ node. node) step_in old new held held held held' input fault
+        stops_by HeldStep (RunStepIn histories shared) (λ node. node) step_in old new held held' input fault
         (stops_in RunStep Reaches reached_before old new input held held' fault h reaches)

@@ -11,6 +11,7 @@ use Rattle.job_pool.specs.declared.fault.RunFault.{RunFault}
 use Rattle.job_pool.specs.declared.fault.RunFault.TheVariants as runs
 use Rattle.job_pool.specs.declared.jobs.JobFault.{JobFault}
 use Rattle.job_pool.specs.declared.worker.NumberedEnd.{NumberedEnd}
+use Rattle.node_session.specs.Streams.{SourceView, TargetView}
 use Rattle.stats_book.specs.Counting.{ArePastFull, both, number_of, sum_of, zeros}
 use Rattle.stats_book.specs.declared.totals.Totals.{Totals}
 use Rattle.gate_node.specs.Gates.{Gates}
@@ -49,13 +50,13 @@ or_true : (a b : Bool) → (a || b) ≡ true → (a ≡ true) ⊎ (b ≡ true)
 or_true true b h = inl refl
 or_true false b h = inr h
 
-module _ {J R W K : Type 0} (Gives : J → Result (Option (PausedSessionView R W)) JobFault → J → Type 0) (may_rest : Type 0) (remaining : R → Option (List ℕ)) (contents : W → Option (List ℕ)) (told : K → List (NumberedEnd (SessionEnd R W))) (shared : Gates) (first last : J) where
+module _ {J R W K : Type 0} (Gives : J → Result (Option (PausedSessionView R W)) JobFault → J → Type 0) (may_rest : Type 0) (source : R → SourceView) (target : W → TargetView) (told : K → List (NumberedEnd (SessionEnd R W))) (shared : Gates) (first last : J) where
   abbrev Counts : Totals → PausedSessionView R W → Totals → LeftSession R W → Type 0
-  Counts = CountsInOpenSession may_rest remaining contents shared
+  Counts = CountsInOpenSession may_rest source target shared
 
   module _ (given : List (PausedSessionView R W)) (gave : GaveAll Gives first given last) where
     full_turn : (before after : Totals) (turns : List (ServedTurn Totals (PausedSessionView R W) (LeftSession R W))) (ends : List (NumberedEnd (LeftSession R W))) → TurnChain Counts before turns after → Pairwise (IsTurnOfGiven given) turns ends → is_full ends ≡ true
-        → GavePastFullBook Gives may_rest remaining contents shared first last
+        → GavePastFullBook Gives may_rest source target shared first last
     full_turn before after [] [] chain h full = absurd (cc full)
     full_turn before after [] (one ∷ ends) chain h full = absurd h
     full_turn before after (turn ∷ turns) [] chain h full = absurd h
@@ -76,7 +77,7 @@ module _ {J R W K : Type 0} (Gives : J → Result (Option (PausedSessionView R W
     ]
 
     full_session : (seen : Sights) (shares : List (WorkerTurns Totals (PausedSessionView R W) (LeftSession R W))) (end_reporters : List (EndReporterView R W K)) → Every (IsChain Counts) shares → Pairwise (IsTold told_to given) shares end_reporters
-        → Every (IsCovered told shared seen) end_reporters → are_full end_reporters ≡ true → GavePastFullBook Gives may_rest remaining contents shared first last
+        → Every (IsCovered told shared seen) end_reporters → are_full end_reporters ≡ true → GavePastFullBook Gives may_rest source target shared first last
     full_session seen [] [] chained each stand full = absurd (cc full)
     full_session seen [] (end_reporter ∷ end_reporters) chained each stand full = absurd each
     full_session seen (share ∷ shares) [] chained each stand full = absurd each
@@ -92,10 +93,10 @@ module _ {J R W K : Type 0} (Gives : J → Result (Option (PausedSessionView R W
 
       module _ (before seen : Sights) (more : HaveSeenAllOf seen before) where
         -- what the workers' run told, and what is left of it
-        pub tells_source : Every (λ (t : Totals). t ≡ zeros) firsts → (served : ServedSessions R W K) → Settles told shared workers end_reporters count away seen served → TellsSource may_rest remaining contents told shared Gives first before served last seen
+        pub tells_source : Every (λ (t : Totals). t ≡ zeros) firsts → (served : ServedSessions R W K) → Settles told shared workers end_reporters count away seen served → TellsSource may_rest source target told shared Gives first before served last seen
         tells_source zero served left =
             let began = subst (Every (λ (t : Totals). t ≡ zeros)) (sym once.began) zero in
-            let all = all_gathered may_rest remaining contents shared given seen told once.shares end_reporters began once.chained once.each left.stand left.whole in
+            let all = all_gathered may_rest source target shared given seen told once.shares end_reporters began once.chained once.each left.stand left.whole in
             let sinks : told_by told served.sinks.items ≡ told_by told (map sink_of end_reporters) = ap (told_by told) left.sinks in
             let refused : served.refused ≡ length once.refusals = left.refused ∙ once.others in (
               given,
@@ -128,10 +129,10 @@ module _ {J R W K : Type 0} (Gives : J → Result (Option (PausedSessionView R W
 
       module _ (zero : Every (λ (t : Totals). t ≡ zeros) firsts) (seen : Sights) where
         -- where no session met a full book, and the workers have too many together
-        past_sums : are_full end_reporters ≡ false → ArePastFull zeros (sum_of workers) → Every (IsCovered told shared seen) end_reporters → GavePastSums Gives may_rest remaining contents shared first last
+        past_sums : are_full end_reporters ≡ false → ArePastFull zeros (sum_of workers) → Every (IsCovered told shared seen) end_reporters → GavePastSums Gives may_rest source target shared first last
         past_sums whole past stand =
             let began = subst (Every (λ (t : Totals). t ≡ zeros)) (sym once.began) zero in
-            let all = all_gathered may_rest remaining contents shared given seen told once.shares end_reporters began once.chained once.each stand whole in
+            let all = all_gathered may_rest source target shared given seen told once.shares end_reporters began once.chained once.each stand whole in
             let sums : both zeros (sum_of workers) ≡ both (sum_of (map count_told all.ended)) (sum_of (map count_rested all.rested)) = none_both (sum_of workers) ∙ ap sum_of (sym once.left) ∙ all.sums in
             record {
               given = given;
@@ -150,21 +151,21 @@ module _ {J R W K : Type 0} (Gives : J → Result (Option (PausedSessionView R W
               past = past_by zeros (sum_of workers) (sum_of (map count_told all.ended)) (sum_of (map count_rested all.rested)) sums past;
             }
 
-        too_many : AreTooMany told shared workers end_reporters → Every (IsCovered told shared seen) end_reporters → LeavesTold Gives may_rest remaining contents shared BookFull first last
+        too_many : AreTooMany told shared workers end_reporters → Every (IsCovered told shared seen) end_reporters → LeavesTold Gives may_rest source target shared BookFull first last
         too_many h stand = elim h [
           | inl full ↦ inl (full_session seen once.shares end_reporters once.chained once.each stand full)
           | inr sums ↦ inr (past_sums sums.0 sums.1 stand)
         ]
 
         -- and where it ends behind that
-        pub leaves_told : (fault : PoolFault) → IsFaultAfterTold told shared workers end_reporters seen fault → LeavesTold Gives may_rest remaining contents shared fault first last
+        pub leaves_told : (fault : PoolFault) → IsFaultAfterTold told shared workers end_reporters seen fault → LeavesTold Gives may_rest source target shared fault first last
         leaves_told NoMemory h = absurd h
         leaves_told NoThread h = absurd h
         leaves_told JobsFailed h = absurd h
         leaves_told BookFull h = too_many h.0 h.1
 
   -- what is left of the source where the run of the workers ends by a fault
-  pub leaves_by : (fault : RunFault) → Leaves Gives fault first last → LeavesTold Gives may_rest remaining contents shared (pool_fault fault) first last
+  pub leaves_by : (fault : RunFault) → Leaves Gives fault first last → LeavesTold Gives may_rest source target shared (pool_fault fault) first last
   leaves_by runs.NoMemory h = h
   leaves_by runs.NoThread h = h
   leaves_by runs.JobsFailed h = h

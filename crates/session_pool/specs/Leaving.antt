@@ -2,6 +2,7 @@
 use Rattle.std.specs.Prelude.{◌≡◌, ℕ, Bool, false, List, Option}
 use Rattle.riak_msgs.specs.declared.Request.{Request}
 use Rattle.riak_msgs.specs.declared.Reply.{Reply}
+use Rattle.node_session.specs.Streams.{SourceView, TargetView}
 use Rattle.node_session.specs.Stages.{IsGoing, IsOverBy}
 use Rattle.stats_book.specs.Counting.{both}
 use Rattle.stats_book.specs.declared.totals.Totals.{Totals}
@@ -19,7 +20,7 @@ abbrev pub IsEnd : {R W : Type 0} → Left R W → Type 0
 IsEnd (Ended ended) = Unit {0}
 IsEnd (Rests session) = ⊥
 
-module _ {R W : Type 0} (remaining : R → Option (List ℕ)) (contents : W → Option (List ℕ)) where
+module _ {R W : Type 0} (source : R → SourceView) (target : W → TargetView) where
   -- a session that began there, over gates which became these, came to this end, by this step from its first read on
   pub record EndsOver (shared : Gates) (Step : NodeOverGates → Request → Reply → NodeOverGates → Type 0) (origin : Origin) (ended : EndedSession R W) (after : NodeOverGates) : Type 0 where
     pub from : ended.origin ≡ origin
@@ -27,7 +28,7 @@ module _ {R W : Type 0} (remaining : R → Option (List ℕ)) (contents : W → 
     pub reaches : IsLater after.shared shared
     pub left : after.passes ≡ ended.passes
     pub kept : ArePassesOf shared ended.passes
-    pub session : IsOverBy Step (first_node origin) after origin.unread (remaining ended.reader) origin.held (contents ended.writer) origin.gates.reads ended.result
+    pub session : IsOverBy Step (first_node origin) after origin.source (source ended.reader) origin.target (target ended.writer) origin.gates.reads ended.result
 
   -- a session is left as it is: it is over, and came to this end, or it rests
   abbrev pub IsLeftAs : PausedSessionView R W → Left R W → Type 0

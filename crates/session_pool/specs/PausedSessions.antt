@@ -1,5 +1,6 @@
 -- A session that rests between two of its steps, and how one that went on is left.
 use Rattle.std.specs.Prelude.{◌≡◌, ℕ, Bool, false, List, [], ◌∷◌, Option, None}
+use Rattle.node_session.specs.Streams.{SourceView, TargetView, source_of, target_of}
 use Rattle.node_session.specs.Stages.{Came, Fits}
 use Rattle.node_session.specs.Views.{nothing_read}
 use Rattle.node_session.specs.declared.stage.Stage.TheVariants.{Answering}
@@ -15,11 +16,11 @@ use Rattle.session_pool.specs.Resuming.{IsLater, RunStep, RunNodeView, RunNodeSt
 pub record Origin : Type 0 where
   pub gates : Gates
   pub passes : Sights
-  pub unread : Option (List ℕ)
-  pub held : Option (List ℕ)
+  pub source : SourceView
+  pub target : TargetView
 
 abbrev pub no_origin : Origin
-no_origin = record { gates = no_gates; passes = no_node.passes; unread = None; held = None }
+no_origin = record { gates = no_gates; passes = no_node.passes; source = source_of None; target = target_of None }
 
 -- what a list of one has
 abbrev pub origin_in : List Origin → Origin
@@ -77,10 +78,10 @@ module _ {R W : Type 0} where
     pub counts : full ≡ false → both session.rest.count.counted counted ≡ now.rest.count.counted
     pub room : full ≡ false → now.rest.count.book_full ≡ false
 
-  module _ (remaining : R → Option (List ℕ)) (contents : W → Option (List ℕ)) where
+  module _ (source : R → SourceView) (target : W → TargetView) where
     -- a session has come so far, from its first read, by a node over the gates as they were at each step; and its passes are of those that it rested over
     pub record IsUnderWay (session : PausedSessionView R W) : Type 0 where
-      pub came : Came RunStep (first_node session.origin) session.rest session.origin.unread (remaining session.reader) session.origin.held (contents session.writer) session.session.stage session.session
+      pub came : Came RunStep (first_node session.origin) session.rest session.origin.source (source session.reader) session.origin.target (target session.writer) session.session.stage session.session
       pub fits : Fits session.session.stage session.session
       pub reads : session.session.most ≡ session.origin.gates.reads
       pub began_before : IsLater session.origin.gates session.over
@@ -89,7 +90,7 @@ module _ {R W : Type 0} where
 
     -- so has one that went on
     pub record IsOpen (open_session : OpenSessionView R W) : Type 0 where
-      pub came : Came RunNodeStep (standing open_session.node.over open_session.node.before (first_node open_session.origin)) open_session.node open_session.origin.unread (remaining open_session.reader) open_session.origin.held (contents open_session.writer) open_session.session.stage open_session.session
+      pub came : Came RunNodeStep (standing open_session.node.over open_session.node.before (first_node open_session.origin)) open_session.node open_session.origin.source (source open_session.reader) open_session.origin.target (target open_session.writer) open_session.session.stage open_session.session
       pub fits : Fits open_session.session.stage open_session.session
       pub reads : open_session.session.most ≡ open_session.origin.gates.reads
       pub began_before : IsLater open_session.origin.gates open_session.node.over

@@ -6,6 +6,7 @@ use Rattle.job_pool.specs.Lists.{Every, concat}
 use Rattle.job_pool.specs.Queue.{weight_below}
 use Rattle.job_pool.specs.declared.jobs.JobFault.{JobFault}
 use Rattle.job_pool.specs.declared.worker.NumberedEnd.{NumberedEnd}
+use Rattle.node_session.specs.Streams.{SourceView, TargetView}
 use Rattle.stats_book.specs.Counting.{ArePastFull, both, sum_of}
 use Rattle.stats_book.specs.declared.totals.Totals.{Totals}
 use Rattle.gate_node.specs.Gates.{Gates}
@@ -28,8 +29,8 @@ abbrev pub with_passes : {R W : Type 0} → SessionEnd R W → Sights → Origin
 with_passes end passes origin = record { result = end.result; reader = end.reader; writer = end.writer; passes = passes; origin = origin }
 
 -- a session that began there came to this end, over gates that became these
-abbrev pub IsToldEnd : {R W : Type 0} → (R → Option (List ℕ)) → (W → Option (List ℕ)) → Gates → Origin → SessionEnd R W → Type 0
-IsToldEnd remaining contents shared origin end = (passes : Sights) × (after : NodeOverGates) × EndsOver remaining contents shared RunStep origin (with_passes end passes origin) after
+abbrev pub IsToldEnd : {R W : Type 0} → (R → SourceView) → (W → TargetView) → Gates → Origin → SessionEnd R W → Type 0
+IsToldEnd source target shared origin end = (passes : Sights) × (after : NodeOverGates) × EndsOver source target shared RunStep origin (with_passes end passes origin) after
 
 -- a session of which a sink was told the end: its number, the session as it was given, its end, the passes that it left, and what it counted
 pub record ToldSession (R W : Type 0) : Type 0 where
@@ -65,11 +66,11 @@ module _ {R W : Type 0} where
   weight_rested w [] = 0
   weight_rested w (one ∷ rest) = w one.number + weight_rested w rest
 
-  module _ (remaining : R → Option (List ℕ)) (contents : W → Option (List ℕ)) (shared : Gates) (given : List (PausedSessionView R W)) where
+  module _ (source : R → SourceView) (target : W → TargetView) (shared : Gates) (given : List (PausedSessionView R W)) where
     -- it is the one of its number, and came to this end; the passes that it left have seen no more than these
     pub record IsToldSession (seen : Sights) (one : ToldSession R W) : Type 0 where
       pub given_as : slice_get given one.number ≡ Some one.session
-      pub ends : IsEndOf remaining contents shared RunStep one.session one.counted false (with_passes one.end one.passes one.session.origin)
+      pub ends : IsEndOf source target shared RunStep one.session one.counted false (with_passes one.end one.passes one.session.origin)
       pub covered : HaveSeenAllOf seen one.passes
 
     -- it is the one of its number, went on, and rests again, which may be
@@ -78,7 +79,7 @@ module _ {R W : Type 0} where
       pub rests : RestsAgain shared one.session one.counted false one.now
       pub allowed : may_rest
 
-  module _ {K : Type 0} (may_rest : Type 0) (remaining : R → Option (List ℕ)) (contents : W → Option (List ℕ)) (told : K → List (NumberedEnd (SessionEnd R W))) (shared : Gates) where
+  module _ {K : Type 0} (may_rest : Type 0) (source : R → SourceView) (target : W → TargetView) (told : K → List (NumberedEnd (SessionEnd R W))) (shared : Gates) where
     -- What the sinks were told are the ends of these sessions, and these rest. Each that was given is one of them or was refused, once, since whatever
     -- their numbers weigh, the sums are the same. What was seen of the gates by those that are over these passes have seen too, and what they had seen
     -- before. The totals are what they counted.
@@ -87,9 +88,9 @@ module _ {R W : Type 0} where
       pub rested : List (RestedSession R W)
       pub refusals : List ℕ
       pub tells : map told_of ended ≡ told_by told served.sinks.items
-      pub each : Every (IsToldSession remaining contents shared given seen) ended
+      pub each : Every (IsToldSession source target shared given seen) ended
       pub rests : map now_of rested ≡ concat (map (λ one. one.items) served.resting.items)
-      pub each_rests : Every (IsRestedSession remaining contents shared given may_rest) rested
+      pub each_rests : Every (IsRestedSession source target shared given may_rest) rested
       pub once : (w : ℕ → ℕ) → (weight_told w (told_by told served.sinks.items) + weight_rested w rested) + weight_refused w refusals ≡ weight_below w (length given)
       pub accepted : served.accepted ≡ length given
       pub refused : served.refused ≡ length refusals
@@ -101,7 +102,7 @@ module _ {R W : Type 0} where
     abbrev pub TellsSource : {J : Type 0} → (J → Result (Option (PausedSessionView R W)) JobFault → J → Type 0) → J → Sights → ServedSessions R W K → J → Sights → Type 0
     TellsSource Gives first before served last seen = (given : List (PausedSessionView R W)) × GaveAll Gives first given last × TellsAll given before served seen
 
-module _ {J R W : Type 0} (Gives : J → Result (Option (PausedSessionView R W)) JobFault → J → Type 0) (may_rest : Type 0) (remaining : R → Option (List ℕ)) (contents : W → Option (List ℕ)) (shared : Gates) where
+module _ {J R W : Type 0} (Gives : J → Result (Option (PausedSessionView R W)) JobFault → J → Type 0) (may_rest : Type 0) (source : R → SourceView) (target : W → TargetView) (shared : Gates) where
   -- all sessions were given, and at the end of one of them its worker had no room for what it had counted
   pub record GavePastFullBook (first last : J) : Type 0 where
     pub given : List (PausedSessionView R W)
@@ -112,7 +113,7 @@ module _ {J R W : Type 0} (Gives : J → Result (Option (PausedSessionView R W))
     pub before : Totals
     pub after : Totals
     pub one : LeftSession R W
-    pub counts : CountsInOpenSession may_rest remaining contents shared before session after one
+    pub counts : CountsInOpenSession may_rest source target shared before session after one
     pub full : one.book_full ≡ true
 
   -- All sessions were given; these ended, these rest and the others were refused, each once, and at none of their ends a worker had no room. But what
@@ -124,8 +125,8 @@ module _ {J R W : Type 0} (Gives : J → Result (Option (PausedSessionView R W))
     pub ended : List (ToldSession R W)
     pub rested : List (RestedSession R W)
     pub refusals : List ℕ
-    pub each : Every (IsToldSession remaining contents shared given seen) ended
-    pub each_rests : Every (IsRestedSession remaining contents shared given may_rest) rested
+    pub each : Every (IsToldSession source target shared given seen) ended
+    pub each_rests : Every (IsRestedSession source target shared given may_rest) rested
     pub once : (w : ℕ → ℕ) → (weight_told w (map told_of ended) + weight_rested w rested) + weight_refused w refusals ≡ weight_below w (length given)
     pub past : ArePastFull (sum_of (map count_told ended)) (sum_of (map count_rested rested))
 

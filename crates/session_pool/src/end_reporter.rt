@@ -18,8 +18,8 @@ use crate::session_service::{LeftSession, OfGates, SessionService};
 use gate_node::{Passes, Shared, Turnstile};
 use ghost_state::GhostList;
 use job_pool::{NumberedEnd, Sink};
+use node_session::{Source, Target};
 use std::alloc::Global;
-use std::io::{Read, Write};
 use std::marker::{Model, PhantomData};
 use std::snapshot::Snapshot;
 use std::sync::Wait;
@@ -35,7 +35,7 @@ pub(crate) fn either(first: bool, second: bool) -> bool
 /// book was full in one of its sessions.
 ///
 /// Contracts see too how all its sessions were left.
-pub struct EndReporter<H: OfGates, R: Read, W: Write, K: EndSink<R, W>> {
+pub struct EndReporter<H: OfGates, R: Source, W: Target, K: EndSink<R, W>> {
     sink: K,
     seen: Passes,
     is_book_full: bool,
@@ -45,7 +45,7 @@ pub struct EndReporter<H: OfGates, R: Read, W: Write, K: EndSink<R, W>> {
 }
 
 /// One call at each place where one is let go.
-impl<H: OfGates, R: Read + Drop, W: Write + Drop, K: EndSink<R, W> + Drop> Drop
+impl<H: OfGates, R: Source + Drop, W: Target + Drop, K: EndSink<R, W> + Drop> Drop
     for EndReporter<H, R, W, K> {
     fn drop(self) {
         let EndReporter {
@@ -59,7 +59,7 @@ impl<H: OfGates, R: Read + Drop, W: Write + Drop, K: EndSink<R, W> + Drop> Drop
     }
 }
 
-impl<H: OfGates, R: Read, W: Write, K: EndSink<R, W>> Model for EndReporter<H, R, W, K> {
+impl<H: OfGates, R: Source, W: Target, K: EndSink<R, W>> Model for EndReporter<H, R, W, K> {
     ghost use Rattle.std.specs.Prelude.{vec_capacity};
     ghost use Rattle.session_pool.specs.EndReporters.{EndReporterView, EndReporterStands};
 
@@ -84,7 +84,7 @@ impl<H: OfGates, R: Read, W: Write, K: EndSink<R, W>> Model for EndReporter<H, R
     }) };
 }
 
-impl<H: OfGates, R: Read, W: Write, K: EndSink<R, W>> EndReporter<H, R, W, K> {
+impl<H: OfGates, R: Source, W: Target, K: EndSink<R, W>> EndReporter<H, R, W, K> {
     /// Of a worker that has served nothing.
     pub(crate) fn new(alloc: Global, sink: K, seen: Passes) -> EndReporter<H, R, W, K>
         requires none { K.told sink ≡ [] }
@@ -124,7 +124,7 @@ impl<H: OfGates, R: Read, W: Write, K: EndSink<R, W>> EndReporter<H, R, W, K> {
 }
 
 /// Tells a sink the end of a session over these gates, and keeps what its passes had seen.
-fn tell_end<R: Read, W: Write, K: EndSink<R, W>>(
+fn tell_end<R: Source, W: Target, K: EndSink<R, W>>(
     sink: &mut K,
     seen: &mut Passes,
     shared: &Shared,
@@ -132,7 +132,7 @@ fn tell_end<R: Read, W: Write, K: EndSink<R, W>>(
     ended: EndedSession<R, W>,
 )
     requires ends { (after : NodeOverGates)
-        × EndsOver R.remaining W.contents shared.now RunStep ended.origin ended after }
+        × EndsOver R.source W.target shared.now RunStep ended.origin ended after }
     requires passes { ArePassesOf shared.now seen.old }
     requires room { (n : ℕ) × K.has_room sink.old (n + 1) }
     ensures told { K.told sink.new
@@ -164,8 +164,8 @@ where
     X: Wait + Sync,
     T: Turnstile + Sync,
     Q: Pause + Sync,
-    R: Read + Drop + Send + Sync,
-    W: Write + Drop + Send + Sync,
+    R: Source + Drop + Send + Sync,
+    W: Target + Drop + Send + Sync,
     K: EndSink<R, W>,
 {
     ghost told = { λ end_reporter. end_reporter.told };
@@ -184,7 +184,7 @@ where
         end: LeftSession<R, W>,
     )
         requires served { (first : Totals) × (last : Totals)
-            × CountsInOpenSession Q.can_be_raised R.remaining W.contents service.now
+            × CountsInOpenSession Q.can_be_raised R.source W.target service.now
             first job.value last end }
         requires room { (n : ℕ) × HasRoom K.has_room self.old (n + 1) }
         ensures told { self.new.told

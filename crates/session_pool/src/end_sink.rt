@@ -3,8 +3,7 @@
 use crate::rest::Began;
 use gate_node::Shared;
 use job_pool::NumberedEnd;
-use node_session::{Ended, SessionFault};
-use std::io::{Read, Write};
+use node_session::{Ended, SessionFault, Source, Target};
 
 /// How a session ended, with its own reader and writer as it left them. Its passes stay with the worker.
 #[derive(Drop)]
@@ -15,7 +14,7 @@ pub struct SessionEnd<R, W> {
 }
 
 /// What is told how each session of a worker of [`serve`](crate::serve) was left, when it is. Each worker has one of its own.
-pub trait EndSink<R: Read, W: Write> {
+pub trait EndSink<R: Source, W: Target> {
     ghost use Rattle.std.specs.Prelude.{◌≡◌, ◌+◌, ◌++◌, ◌∷◌, [], ℕ, List, true};
     ghost use Rattle.job_pool.specs.declared.worker.NumberedEnd.{NumberedEnd};
     ghost use Rattle.session_pool.specs.declared.end_sink.SessionEnd.{SessionEnd};
@@ -34,7 +33,7 @@ pub trait EndSink<R: Read, W: Write> {
 
     /// Is told the end of the session of this number, which began there, and came to this end over gates that became these.
     fn tell(&mut self, shared: &Shared, number: usize, origin: Began, end: SessionEnd<R, W>)
-        requires served { IsToldEnd R.remaining W.contents shared.now origin end }
+        requires served { IsToldEnd R.source W.target shared.now origin end }
         requires room { (n : ℕ) × has_room self.old (n + 1) }
         ensures told { told self.new
             ≡ told self.old ++ record { number = number; end = end } ∷ [] }

@@ -6,6 +6,7 @@ ghost use Rattle.riak_msgs.specs.declared.Reply.{Reply};
 ghost use Rattle.stats_book.specs.declared.totals.Totals.{Totals};
 ghost use Rattle.node_session.specs.Answers.{AnswersInTurn};
 ghost use Rattle.node_session.specs.Answered.{AnsweredInput};
+ghost use Rattle.node_session.specs.Streams.{SourceView, TargetView};
 ghost use Rattle.node_session.specs.Stages.{Came};
 ghost use Rattle.node_session.specs.Session.{IsInputEnd, Stops};
 ghost use Rattle.node_session.specs.declared.fault.SessionFault.{SessionFault};
@@ -35,15 +36,15 @@ pub fn sessions_stay_in_their_run()
 /// A session goes on where it rested: what it came to by a [`RunNode`](crate::RunNode), it came to by steps of a node over the gates as they were
 /// then; and by such steps it has come as far for the node by which it goes on, over whatever gates, since that stands where it rested.
 pub fn sessions_go_on()
-    ensures so_far { (first now : RunNodeView) (unread unread' held held' : Option (List ℕ))
+    ensures so_far { (first now : RunNodeView) (source source' : SourceView) (target target' : TargetView)
         (stage : Stage) (session : Session)
-        → Came RunNodeStep first now unread unread' held held' stage session
-        → Came RunStep first.stands now.stands unread unread' held held' stage session }
+        → Came RunNodeStep first now source source' target target' stage session
+        → Came RunStep first.stands now.stands source source' target target' stage session }
     ensures further { (over : Gates) (before : Totals) (first now : NodeOverGates)
-        (unread unread' held held' : Option (List ℕ)) (stage : Stage) (session : Session)
-        → Came RunStep first now unread unread' held held' stage session
+        (source source' : SourceView) (target target' : TargetView) (stage : Stage) (session : Session)
+        → Came RunStep first now source source' target target' stage session
         → Came RunNodeStep (standing over before first) (standing over before now)
-        unread unread' held held' stage session }
+        source source' target target' stage session }
 {}
 
 /// Where the passes of a session have in the end seen beginnings of one list of histories, those of the primaries, each of its replies that isn't a
@@ -67,12 +68,12 @@ pub fn sessions_are_at_positions()
 /// handed them to, each session of which a sink was told is by steps in these: each of its replies that isn't a fallback's is at a position of the
 /// history of its key's vnode.
 pub fn told_sessions_are_at_positions<R, W>()
-    ensures { (remaining : R → Option (List ℕ)) (contents : W → Option (List ℕ))
+    ensures { (source : R → SourceView) (target : W → TargetView)
         (histories : List GateHistory) (shared : Gates)
         (given : List (PausedSessionView R W)) (seen : Sights) (one : ToldSession R W)
         → AllZip IsSeen histories seen.primaries
-        → IsToldSession remaining contents shared given seen one
-        → IsEndOf remaining contents shared (RunStepIn histories shared)
+        → IsToldSession source target shared given seen one
+        → IsEndOf source target shared (RunStepIn histories shared)
         one.session one.counted false (with_passes one.end one.passes one.session.origin) }
 {}
 
@@ -82,8 +83,8 @@ pub fn told_sessions_are_at_positions<R, W>()
 /// It asks that no partition of the run has a fallback; that the tallies count all of the histories (`tallies_of` of `gate_node`); that the gates are those of a
 /// new run `Shared` says.
 pub fn told_sessions_are_legal<R, W>()
-    ensures { (remaining : R → Option (List ℕ)) (contents : W → Option (List ℕ))
+    ensures { (source : R → SourceView) (target : W → TargetView)
         (shared : Gates) (given : List (PausedSessionView R W)) (seen : Sights)
         (one : ToldSession R W)
-        → ToldSessionIsLegal remaining contents shared given seen one }
+        → ToldSessionIsLegal source target shared given seen one }
 {}

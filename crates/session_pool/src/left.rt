@@ -5,8 +5,7 @@ ghost use Rattle.session_pool.specs.Leaving.{IsLeftAs};
 use crate::paused_session::PausedSession;
 use crate::rest::Began;
 use gate_node::Passes;
-use node_session::{Ended, Scratch, SessionFault};
-use std::io::{Read, Write};
+use node_session::{Ended, Scratch, SessionFault, Source, Target};
 
 /// A session that is over: what came of it, its streams and its passes as it left them, and where it began.
 #[derive(Drop)]
@@ -20,17 +19,17 @@ pub struct EndedSession<R, W> {
 
 /// How a session is left.
 #[derive(Drop)]
-pub enum Left<R: Read, W: Write> {
+pub enum Left<R: Source, W: Target> {
     /// It is over.
     Ended(EndedSession<R, W>),
     /// It rests.
     Rests(PausedSession<R, W>),
 }
 
-impl<R: Read, W: Write> PausedSession<R, W> {
+impl<R: Source, W: Target> PausedSession<R, W> {
     /// Ends it, where it is over; else it rests. The room that was lent to one that is over goes back.
     pub(crate) fn settle(self, scratch: &mut Scratch) -> Left<R, W>
-        ensures { IsLeftAs R.remaining W.contents self result }
+        ensures { IsLeftAs R.source W.target self result }
     {
         let Some(result) = self.session.outcome() else {
             return Left::Rests(self);

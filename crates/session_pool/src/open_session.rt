@@ -1,7 +1,7 @@
 //! A session that goes on.
 ghost use Rattle.std.specs.Prelude.{◌≡◌, ◌<◌, true, false};
 ghost use Rattle.gate_node.specs.Gates.{Gates};
-ghost use Rattle.node_session.specs.Stages.{CanWait, IsGoing, IsOver, weight};
+ghost use Rattle.node_session.specs.Stages.{IsGoing, IsOver, weight};
 ghost use Rattle.session_pool.specs.Leaving.{IsEnd, LeavesSession};
 ghost use Rattle.job_pool.specs.declared.service.StepOutcome.TheVariants.{Going, Waits, Over};
 ghost use Rattle.session_pool.specs.Resuming.{RunStep};
@@ -13,17 +13,16 @@ use crate::rest::Began;
 use crate::run_node::{NodeParts, RunNode};
 use gate_node::Turnstile;
 use job_pool::StepOutcome;
-use node_session::{Scratch, Session};
+use node_session::{Noted, Scratch, Session, Source, Target};
 use stats_book::SessionCount;
 use std::alloc::Global;
-use std::io::{Read, Write};
 use std::marker::Model;
 use std::sync::Wait;
 
 /// A session that goes on over the gates of a run, and may be left at any time.
 ///
 /// Contracts see its node, what it does next and has counted, its streams, and where it began; and that it has come so far since then.
-pub struct OpenSession<'a, X: Wait, T: Turnstile, R: Read, W: Write> {
+pub struct OpenSession<'a, X: Wait, T: Turnstile, R: Source, W: Target> {
     pub(crate) node: RunNode<'a, X, T>,
     pub(crate) session: Session,
     pub(crate) reader: R,
@@ -32,7 +31,7 @@ pub struct OpenSession<'a, X: Wait, T: Turnstile, R: Read, W: Write> {
 }
 
 /// One call at each place where one is let go.
-impl<'a, X: Wait, T: Turnstile, R: Read + Drop, W: Write + Drop> Drop
+impl<'a, X: Wait, T: Turnstile, R: Source + Drop, W: Target + Drop> Drop
     for OpenSession<'a, X, T, R, W> {
     fn drop(self) {
         let OpenSession {
@@ -45,7 +44,7 @@ impl<'a, X: Wait, T: Turnstile, R: Read + Drop, W: Write + Drop> Drop
     }
 }
 
-impl<'a, X: Wait, T: Turnstile, R: Read, W: Write> Model for OpenSession<'a, X, T, R, W> {
+impl<'a, X: Wait, T: Turnstile, R: Source, W: Target> Model for OpenSession<'a, X, T, R, W> {
     ghost use Rattle.session_pool.specs.PausedSessions.{OpenSessionView, IsOpen};
 
     ghost Value = { OpenSessionView R W };
@@ -58,7 +57,7 @@ impl<'a, X: Wait, T: Turnstile, R: Read, W: Write> Model for OpenSession<'a, X, 
       origin = s.origin;
     } };
 
-    ghost invariant = { λ s. IsOpen R.remaining W.contents (record {
+    ghost invariant = { λ s. IsOpen R.source W.target (record {
       node = s.node;
       session = s.session;
       reader = s.reader;
@@ -67,7 +66,7 @@ impl<'a, X: Wait, T: Turnstile, R: Read, W: Write> Model for OpenSession<'a, X, 
     }) };
 }
 
-impl<'a, X: Wait, T: Turnstile, R: Read, W: Write> OpenSession<'a, X, T, R, W> {
+impl<'a, X: Wait, T: Turnstile, R: Source, W: Target> OpenSession<'a, X, T, R, W> {
     /// What its requests are read from.
     pub fn reader(&self) -> &R
         ensures { result.now ≡ self.now.reader }
@@ -82,34 +81,24 @@ impl<'a, X: Wait, T: Turnstile, R: Read, W: Write> OpenSession<'a, X, T, R, W> {
         &self.writer
     }
 
-    /// Takes one step of one that isn't over. True where a stream would have to wait; then nothing was done.
+    /// Takes one step of one that isn't over. True where a stream would have to wait, and may; then nothing was done.
     #[inline(always)]
-    fn advance(&mut self, alloc: Global, scratch: &mut Scratch) -> bool
+    fn advance(&mut self, alloc: Global, scratch: &mut Scratch, may_wait: bool) -> bool
         requires { IsGoing self.old.session.stage }
         ensures stays { (shared : Gates) (session : PausedSessionView R W)
             → StaysOver shared session self.old → StaysOver shared session self.new }
         ensures less { result ≡ false → weight self.new.session.stage self.new.session
             < weight self.old.session.stage self.old.session }
-        ensures waits { result ≡ true → CanWait self.new.session.stage self.new.session.buffers }
         ensures still { result ≡ true → self.new.session ≡ self.old.session }
     {
-        self.session.step(
+        self.session.step::<_, Noted, R, W>(
             alloc,
             &mut self.reader,
             &mut self.writer,
             &mut self.node,
             scratch,
+            may_wait,
         )
-    }
-
-    /// Ends one whose stream would have to wait: that counts as a failure of the stream.
-    fn give_up(&mut self)
-        requires { CanWait self.old.session.stage self.old.session.buffers }
-        ensures stays { (shared : Gates) (session : PausedSessionView R W)
-            → StaysOver shared session self.old → StaysOver shared session self.new }
-        ensures over { IsOver self.new.session.stage }
-    {
-        self.session.stop::<RunNode<'a, X, T>>();
     }
 
     /// Takes one step of it: it answers one message, or calls one stream once. Where a stream would have to wait, and may not, that counts as a
@@ -125,14 +114,11 @@ impl<'a, X: Wait, T: Turnstile, R: Read, W: Write> OpenSession<'a, X, T, R, W> {
         if self.session.outcome().is_some() {
             return StepOutcome::Over;
         }
-        if !self.advance(alloc, scratch) {
-            return StepOutcome::Going;
+        if self.advance(alloc, scratch, may_wait) {
+            StepOutcome::Waits
+        } else {
+            StepOutcome::Going
         }
-        if may_wait {
-            return StepOutcome::Waits;
-        }
-        self.give_up();
-        StepOutcome::Over
     }
 
     /// Leaves it as it is: it is over, or it rests; with what it has counted since it went on. The room that was lent to one that is over goes
@@ -141,7 +127,7 @@ impl<'a, X: Wait, T: Turnstile, R: Read, W: Write> OpenSession<'a, X, T, R, W> {
         ensures over { IsOver self.entry.session.stage → IsEnd result.0 }
         ensures left { (shared : Gates) (session : PausedSessionView R W)
             → StaysOver shared session self.entry
-            → LeavesSession R.remaining W.contents shared RunStep session
+            → LeavesSession R.source W.target shared RunStep session
             result.1.counted result.1.book_full result.0 }
     {
         let OpenSession {

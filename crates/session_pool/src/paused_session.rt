@@ -10,10 +10,9 @@ use crate::rest::{Began, Rest, SeenGates, SeenOrigin, Standing, gates_seen};
 use crate::run_node::RunNode;
 use gate_node::{GateNode, Passes, Shared, Turnstile};
 use ghost_state::{GhostList, Listing};
-use node_session::Session;
+use node_session::{Session, Source, Target};
 use stats_book::SessionCount;
 use std::alloc::Global;
-use std::io::{Read, Write};
 use std::marker::Model;
 use std::sync::Wait;
 
@@ -22,7 +21,7 @@ use std::sync::Wait;
 ///
 /// Contracts see where it began, and that it has come so far from its first read on, by a node over the gates as they were at each step.
 #[derive(Drop)]
-pub struct PausedSession<R: Read, W: Write> {
+pub struct PausedSession<R: Source, W: Target> {
     pub(crate) session: Session,
     pub(crate) reader: R,
     pub(crate) writer: W,
@@ -32,7 +31,7 @@ pub struct PausedSession<R: Read, W: Write> {
     pub(crate) over: GhostList<SeenGates>,
 }
 
-impl<R: Read, W: Write> Model for PausedSession<R, W> {
+impl<R: Source, W: Target> Model for PausedSession<R, W> {
     ghost use Rattle.std.specs.Prelude.{◌≡◌};
     ghost use Rattle.session_pool.specs.Resuming.{gates_in};
     ghost use Rattle.session_pool.specs.PausedSessions.{PausedSessionView, IsUnderWay};
@@ -49,7 +48,7 @@ impl<R: Read, W: Write> Model for PausedSession<R, W> {
     } };
 
     ghost invariant = { λ s. (s.passes ≡ s.rest.passes)
-        × IsUnderWay R.remaining W.contents (record {
+        × IsUnderWay R.source W.target (record {
           origin = s.origin;
           rest = s.rest;
           over = gates_in s.over;
@@ -62,25 +61,25 @@ impl<R: Read, W: Write> Model for PausedSession<R, W> {
 /// Where a session begins that has these streams, by these passes of these gates.
 struct WithStreams;
 
-impl<'a, R: Read, W: Write> Listing<(&'a Shared, &'a Passes, &'a R, &'a W), SeenOrigin>
+impl<'a, R: Source, W: Target> Listing<(&'a Shared, &'a Passes, &'a R, &'a W), SeenOrigin>
     for WithStreams {
     ghost use Rattle.std.specs.Prelude.{[], ◌∷◌};
 
     ghost list = { λ about. record {
       gates = about.0.now;
       passes = about.1.now;
-      unread = R.remaining about.2.now;
-      held = W.contents about.3.now;
+      source = R.source about.2.now;
+      target = W.target about.3.now;
     } ∷ [] };
 }
 
 /// Where a session begins that has these streams, by these passes of these gates.
-fn began<R: Read, W: Write>(shared: &Shared, passes: &Passes, reader: &R, writer: &W) -> Began
+fn began<R: Source, W: Target>(shared: &Shared, passes: &Passes, reader: &R, writer: &W) -> Began
     ensures { result ≡ record {
       gates = shared.now;
       passes = passes.now;
-      unread = R.remaining reader.now;
-      held = W.contents writer.now;
+      source = R.source reader.now;
+      target = W.target writer.now;
     } }
 {
     let about = (shared, passes, reader, writer);
@@ -117,7 +116,7 @@ fn first_rest(shared: &Shared, passes: &Passes) -> Rest
     }
 }
 
-impl<R: Read, W: Write> PausedSession<R, W> {
+impl<R: Source, W: Target> PausedSession<R, W> {
     /// A session that is to begin over these gates, by these passes of them. It takes no memory.
     pub fn new(
         alloc: Global,
@@ -130,8 +129,8 @@ impl<R: Read, W: Write> PausedSession<R, W> {
         ensures { result ≡ begun (record {
           gates = shared.now;
           passes = passes;
-          unread = R.remaining reader;
-          held = W.contents writer;
+          source = R.source reader;
+          target = W.target writer;
         }) reader writer }
     {
         PausedSession {

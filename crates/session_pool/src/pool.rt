@@ -20,8 +20,8 @@ use crate::settle::{new_places, settle};
 use crate::worker_setup::worker_setups_of;
 use gate_node::{GivenUp, Passes, PoolFault, Shared, Turnstile};
 use job_pool::{Jobs, RunFault, StreamReadiness, Wakes, Wakeup, run_at};
+use node_session::{Source, Target};
 use std::alloc::Global;
-use std::io::{Read, Write};
 use std::marker::{Brand, PhantomData};
 use std::sync::Wait;
 use std::thread::Threads;
@@ -43,8 +43,8 @@ where
     X: Threads + Wait + Sync,
     T: Turnstile + Sync,
     Q: Pause + Sync,
-    R: Read + Drop + Send + Sync,
-    W: Write + Drop + Send + Sync,
+    R: Source + Drop + Send + Sync,
+    W: Target + Drop + Send + Sync,
 {
     /// A run over the gates that `H` names, whose workers keep this.
     fn serve<J, K, Y, B>(
@@ -69,12 +69,12 @@ where
         requires sessions { GivesOnly J.gives (CanGoOn shared.now) sessions.old }
         requires seen { ArePassesOf shared.now seen.old }
         ensures served { IfOk result (λ served.
-            TellsSource Q.can_be_raised R.remaining W.contents K.told shared.now J.gives
+            TellsSource Q.can_be_raised R.source W.target K.told shared.now J.gives
             sessions.old seen.old served sessions.new seen.new) }
         ensures sinks { IfOk result (λ served.
             length served.sinks.items ≡ length serving_setups.items) }
         ensures fault { IfErr result (λ fault. LeavesTold J.gives Q.can_be_raised
-            R.remaining W.contents shared.now fault sessions.old sessions.new) }
+            R.source W.target shared.now fault sessions.old sessions.new) }
         ensures more { HaveSeenAllOf seen.new seen.old }
         ensures passes { ArePassesOf shared.now seen.new }
     {
@@ -157,8 +157,8 @@ pub fn serve<X, J, R, W, T, Q, K, Y, B>(
 where
     X: Threads + Wait + Sync,
     J: Jobs<Job = PausedSession<R, W>>,
-    R: Read + Drop + Send + Sync,
-    W: Write + Drop + Send + Sync,
+    R: Source + Drop + Send + Sync,
+    W: Target + Drop + Send + Sync,
     T: Turnstile + Sync,
     Q: Pause + Sync,
     K: EndSink<R, W> + Drop + Send,
@@ -169,12 +169,12 @@ where
     requires sessions { GivesOnly J.gives (CanGoOn shared.now) sessions.old }
     requires seen { ArePassesOf shared.now seen.old }
     ensures served { IfOk result (λ served.
-        TellsSource Q.can_be_raised R.remaining W.contents K.told shared.now J.gives
+        TellsSource Q.can_be_raised R.source W.target K.told shared.now J.gives
         sessions.old seen.old served sessions.new seen.new) }
     ensures sinks { IfOk result (λ served.
         length served.sinks.items ≡ length serving_setups.items) }
     ensures fault { IfErr result (λ fault. LeavesTold J.gives Q.can_be_raised
-        R.remaining W.contents shared.now fault sessions.old sessions.new) }
+        R.source W.target shared.now fault sessions.old sessions.new) }
     ensures more { HaveSeenAllOf seen.new seen.old }
     ensures passes { ArePassesOf shared.now seen.new }
 {

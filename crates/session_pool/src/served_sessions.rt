@@ -1,11 +1,11 @@
 //! What a run of the pool leaves.
 use crate::paused_session::PausedSession;
+use node_session::{Source, Target};
 use stats_book::Totals;
-use std::io::{Read, Write};
 
 /// What a run leaves.
 #[derive(Drop)]
-pub struct ServedSessions<R: Read, W: Write, K> {
+pub struct ServedSessions<R: Source, W: Target, K> {
     /// What all its sessions counted in it.
     pub totals: Totals,
     /// How many sessions the source gave.

@@ -13,8 +13,8 @@ use crate::paused_session::PausedSession;
 use crate::worker_state::WorkerState;
 use gate_node::{Shared, Turnstile};
 use job_pool::{Service, StepOutcome};
+use node_session::{Source, Target};
 use std::alloc::Global;
-use std::io::{Read, Write};
 use std::marker::{Brand, Model, PhantomData};
 use std::sync::Wait;
 
@@ -33,7 +33,7 @@ impl OfGates for Brand {
 
 /// How a session of a run was left, and whether its worker had no room for all that there was to be counted in it.
 #[derive(Drop)]
-pub struct LeftSession<R: Read, W: Write> {
+pub struct LeftSession<R: Source, W: Target> {
     pub left: Left<R, W>,
     pub book_full: bool,
 }
@@ -96,8 +96,8 @@ where
     X: Wait,
     T: Turnstile,
     Q: Pause,
-    R: Read,
-    W: Write,
+    R: Source,
+    W: Target,
 {
     /// Has a session go on, by the worker with this state. It takes no memory.
     pub fn go_on(
@@ -127,7 +127,7 @@ where
         requires { MayBeLeft Q.can_be_raised opened.session.stage }
         ensures over { IsOver opened.entry.session.stage → IsEnd result.left }
         ensures counts { (session : PausedSessionView R W) → StaysOver self.now session opened.entry
-            → CountsInOpenSession Q.can_be_raised R.remaining W.contents self.now
+            → CountsInOpenSession Q.can_be_raised R.source W.target self.now
             worker.old session worker.new result }
     {
         let (left, count) = opened.leave(&mut worker.scratch);
@@ -145,8 +145,8 @@ where
     X: Wait + Sync,
     T: Turnstile + Sync,
     Q: Pause + Sync,
-    R: Read + Drop + Send + Sync,
-    W: Write + Drop + Send + Sync,
+    R: Source + Drop + Send + Sync,
+    W: Target + Drop + Send + Sync,
 {
     type Job = PausedSession<R, W>;
 
@@ -165,7 +165,7 @@ where
 
     ghost is_over = { λ opened. MayBeLeft Q.can_be_raised opened.session.stage };
 
-    ghost serves = { λ shared. CountsInOpenSession Q.can_be_raised R.remaining W.contents shared };
+    ghost serves = { λ shared. CountsInOpenSession Q.can_be_raised R.source W.target shared };
 
     fn open(
         &self,

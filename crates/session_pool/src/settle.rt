@@ -13,17 +13,17 @@ use crate::session_service::OfGates;
 use crate::worker_state::{WorkerState, sum_up};
 use gate_node::{Passes, PoolFault};
 use job_pool::WorkersLeft;
+use node_session::{Source, Target};
 use std::alloc::{AllocError, Global};
-use std::io::{Read, Write};
 
 /// A place for what each worker of a run leaves, made before the run, so that none of it is lost for want of memory.
-pub(crate) struct Places<R: Read, W: Write, K> {
+pub(crate) struct Places<R: Source, W: Target, K> {
     pub(crate) sinks: Vec<K>,
     pub(crate) resting: Vec<Vec<PausedSession<R, W>>>,
 }
 
 /// One call at each place where one is let go.
-impl<R: Read + Drop, W: Write + Drop, K: Drop> Drop for Places<R, W, K> {
+impl<R: Source + Drop, W: Target + Drop, K: Drop> Drop for Places<R, W, K> {
     fn drop(self) {
         let Places {
             sinks: _sinks,
@@ -32,7 +32,7 @@ impl<R: Read + Drop, W: Write + Drop, K: Drop> Drop for Places<R, W, K> {
     }
 }
 
-impl<R: Read, W: Write, K> Places<R, W, K> {
+impl<R: Source, W: Target, K> Places<R, W, K> {
     /// The lists.
     fn into_lists(self) -> (Vec<K>, Vec<Vec<PausedSession<R, W>>>)
         ensures { (result.0 ≡ self.sinks) × (result.1 ≡ self.resting) }
@@ -43,7 +43,7 @@ impl<R: Read, W: Write, K> Places<R, W, K> {
 }
 
 /// Places for so many workers.
-pub(crate) fn new_places<R: Read, W: Write, K: Drop>(
+pub(crate) fn new_places<R: Source, W: Target, K: Drop>(
     alloc: Global,
     workers: usize,
 ) -> Result<Places<R, W, K>, AllocError>
@@ -60,14 +60,14 @@ pub(crate) fn new_places<R: Read, W: Write, K: Drop>(
 
 /// The sinks of end reporters, what rests of each, and whether the book was full in a session of one of them.
 #[derive(Drop)]
-struct Apart<R: Read, W: Write, K> {
+struct Apart<R: Source, W: Target, K> {
     sinks: Vec<K>,
     resting: Vec<Vec<PausedSession<R, W>>>,
     is_book_full: bool,
 }
 
 /// Takes the end reporters apart, in lists that have a place for each. What they have seen these passes have then seen too.
-fn take_apart<H: OfGates, R: Read + Drop, W: Write + Drop, K: EndSink<R, W> + Drop>(
+fn take_apart<H: OfGates, R: Source + Drop, W: Target + Drop, K: EndSink<R, W> + Drop>(
     sinks: Vec<K>,
     resting: Vec<Vec<PausedSession<R, W>>>,
     end_reporters: Vec<EndReporter<H, R, W, K>>,
@@ -106,8 +106,8 @@ pub(crate) fn settle<H, R, W, K>(
 ) -> Result<ServedSessions<R, W, K>, PoolFault>
 where
     H: OfGates,
-    R: Read + Drop,
-    W: Write + Drop,
+    R: Source + Drop,
+    W: Target + Drop,
     K: EndSink<R, W> + Drop,
     requires passes { ArePassesOf H.gates seen.old }
     requires empty { (places.sinks.items ≡ []) × (places.resting.items ≡ []) }

@@ -6,8 +6,8 @@ use crate::pause::Pause;
 use crate::session_service::{OfGates, SessionService};
 use gate_node::Turnstile;
 use job_pool::{Readiness, StepOutcome, StreamReadiness, Turn};
+use node_session::{Source, Target};
 use std::alloc::Global;
-use std::io::{Read, Write};
 use std::sync::Wait;
 
 /// What a worker waits with, which is shown the streams of a session; and the worker's reserve, which its own thread fills once all threads were
@@ -70,8 +70,8 @@ where
     X: Wait + Sync,
     T: Turnstile + Sync,
     Q: Pause + Sync,
-    I: Read + Drop + Send + Sync,
-    O: Write + Drop + Send + Sync,
+    I: Source + Drop + Send + Sync,
+    O: Target + Drop + Send + Sync,
 {
     fn takes(&mut self, is_idle: bool) -> bool {
         self.streams.takes(is_idle)

@@ -15,8 +15,8 @@ use crate::watch::Watch;
 use crate::worker_state::WorkerState;
 use gate_node::{Passes, PoolFault, Shared};
 use job_pool::WorkerSetup;
+use node_session::{Source, Target};
 use std::alloc::Global;
-use std::io::{Read, Write};
 
 /// What a worker of a run is started with.
 pub(crate) type WorkerSetupOf<'a, H, R, W, K, Y, B> = WorkerSetup<
@@ -36,8 +36,8 @@ fn new_worker_setup<'a, H, R, W, K, Y, B>(
 ) -> Result<WorkerSetupOf<'a, H, R, W, K, Y, B>, PoolFault>
 where
     H: OfGates,
-    R: Read + Drop,
-    W: Write + Drop,
+    R: Source + Drop,
+    W: Target + Drop,
     K: EndSink<R, W> + Drop,
     Y: Drop,
     B: Drop,
@@ -75,8 +75,8 @@ pub(crate) fn worker_setups_of<'a, H, R, W, K, Y, B>(
 ) -> Result<Vec<WorkerSetupOf<'a, H, R, W, K, Y, B>>, PoolFault>
 where
     H: OfGates,
-    R: Read + Drop,
-    W: Write + Drop,
+    R: Source + Drop,
+    W: Target + Drop,
     K: EndSink<R, W> + Drop,
     Y: Drop,
     B: Drop,

@@ -8,7 +8,7 @@ use Rattle.worker_pool.specs.declared.job.Job.{Job}
 use Rattle.socket_streams.specs.declared.halves.RequestHalf.{RequestHalf}
 use Rattle.socket_streams.specs.declared.halves.ReplyHalf.{ReplyHalf}
 use Rattle.socket_streams.specs.Arriving.{ArrivalsView, GivesConnection}
-use Rattle.socket_streams.specs.Sending.{written}
+use Rattle.socket_streams.specs.Sending.{target_of_replies}
 
 -- the elements of these lists, from the last one of the last list on
 abbrev pub in_turn : {A : Type 0} → List (List A) → List A
@@ -21,7 +21,7 @@ pub record SessionsView : Type 0 where
 
 -- the session that is to begin over these gates by this job
 abbrev pub begun_by : Gates → Job RequestHalf ReplyHalf → PausedSessionView RequestHalf ReplyHalf
-begun_by gates job = begun (record { gates = gates; passes = job.passes; unread = None; held = Some (written job.writer) }) job.reader job.writer
+begun_by gates job = begun (record { gates = gates; passes = job.passes; source = job.reader; target = target_of_replies job.writer }) job.reader job.writer
 
 -- where no session rests: what the connections' source gives, a session for a connection
 abbrev pub GivesBegun : ArrivalsView → Result (Option (PausedSessionView RequestHalf ReplyHalf)) JobFault → ArrivalsView → Type 0

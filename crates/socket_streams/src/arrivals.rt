@@ -62,11 +62,12 @@ impl<'a, X, L> Model for Arrivals<'a, X, L> {
       limit = a.limits.connections;
       counts_refused = a.limits.counts_refused;
       can_stop = a.limits.can_stop;
+      before = a.limits.before;
       given = a.given;
       refused = a.refused;
     } };
 
-    ghost invariant = { λ a. (a.given + a.refused < 2 ^ 64)
+    ghost invariant = { λ a. (a.limits.before + a.given + a.refused < 2 ^ 64)
         × IfSome a.limits.connections (λ limit. a.given + a.refused ≤ limit)
         × (a.limits.counts_refused ≡ false → a.refused ≡ 0) };
 }
@@ -87,6 +88,7 @@ impl<'a, X, L: OpenListener<Stream = TcpStream> + AsRawFd> Arrivals<'a, X, L> {
           limit = limits.connections;
           counts_refused = limits.counts_refused;
           can_stop = limits.can_stop;
+          before = limits.before;
           given = 0;
           refused = 0;
         }) }
@@ -215,11 +217,13 @@ impl<'a, X, L: OpenListener<Stream = TcpStream> + AsRawFd> Arrivals<'a, X, L> {
         peer: SocketAddr,
     ) -> Option<Job<RequestHalf, ReplyHalf>>
         ensures same { self.new ≡ self.old }
-        ensures new { IfSome result (IsNewConnection self.old.gates) }
+        ensures new { IfSome result
+            (IsNewConnection self.old.gates (self.old.before + self.old.given)) }
     {
+        let number = self.limits.before + self.given;
         let passes = self.new_passes()?;
         let socket = self.new_socket(stream)?;
-        match new_halves(self.alloc, socket, peer) {
+        match new_halves(self.alloc, socket, peer, number) {
             Ok((reader, writer)) => Some(Job {
                 reader,
                 writer,
@@ -307,7 +311,7 @@ where
 
     /// Counts a connection that was closed for want of memory, where it counts.
     fn count_refused(&mut self)
-        requires room { self.old.given + self.old.refused + 1 < 2 ^ 64 }
+        requires room { self.old.before + self.old.given + self.old.refused + 1 < 2 ^ 64 }
         requires below { IfSome self.old.limit
             (λ limit. self.old.given + self.old.refused < limit) }
         ensures same { IsSameSource self.old self.new }
@@ -320,11 +324,12 @@ where
 
     /// The job of a connection that was accepted from `peer`, which is logged and counted. None where it had to be closed.
     fn take(&mut self, stream: TcpStream, peer: SocketAddr) -> Option<Job<RequestHalf, ReplyHalf>>
-        requires room { self.old.given + self.old.refused + 1 < 2 ^ 64 }
+        requires room { self.old.before + self.old.given + self.old.refused + 1 < 2 ^ 64 }
         requires below { IfSome self.old.limit
             (λ limit. self.old.given + self.old.refused < limit) }
         ensures same { IsSameSource self.old self.new }
-        ensures given { IfSome result (λ job. IsNewConnection self.old.gates job
+        ensures given { IfSome result (λ job.
+            IsNewConnection self.old.gates (self.old.before + self.old.given) job
             × (self.new.given ≡ self.old.given + 1)) }
         ensures none { IfNone result (self.new.given ≡ self.old.given) }
     {
@@ -348,11 +353,12 @@ where
         requires below { IfSome self.old.limit
             (λ limit. self.old.given + self.old.refused < limit) }
         ensures same { IsSameSource self.old self.new }
-        ensures given { IfOk result (λ next. IfSome next (λ job. IsNewConnection self.old.gates job
+        ensures given { IfOk result (λ next. IfSome next (λ job.
+            IsNewConnection self.old.gates (self.old.before + self.old.given) job
             × (self.new.given ≡ self.old.given + 1))) }
         ensures none { IfOk result (λ next. IfNone next (self.new.given ≡ self.old.given)) }
     {
-        if self.accepted() == u64::MAX {
+        if self.accepted() >= u64::MAX - self.limits.before {
             return Err(JobFault);
         }
         match self.listener.accept() {

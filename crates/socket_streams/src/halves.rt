@@ -1,12 +1,15 @@
 //! The two halves of a connection over a socket that needs not wait.
 
-ghost use Rattle.std.specs.Prelude.{◌≡◌, ◌≤◌, ◌++◌, [], take, drop, length};
-ghost use Rattle.std.specs.Prelude.{Some, IfOk, OnOk, OnErr};
+ghost use Rattle.std.specs.Prelude.{◌≡◌, ◌≤◌, ◌++◌, ◌∷◌, [], take, drop, length};
+ghost use Rattle.std.specs.Prelude.{None, Some, IfOk, OnOk, OnErr};
+ghost use Rattle.std.specs.Io.{ReadsAtMost};
 ghost use Rattle.std.specs.Io.KnownBytes.{WriteAppends};
-ghost use Rattle.socket_streams.specs.Sending.{written};
+ghost use Rattle.node_session.specs.Streams.{note_of};
+ghost use Rattle.socket_streams.specs.Sending.{written, waiting};
 
 use crate::connection::{Connection, Socket};
-use ghost_state::{GhostList, Listing};
+use ghost_state::{GhostList, GhostValue, Listing};
+use node_session::{ReadNote, Source, Target};
 use pb_frame::shrink_empty;
 use std::alloc::Global;
 use std::io;
@@ -25,20 +28,53 @@ const FRAME_TOO_LARGE: &[u8] = b"\0\0\0\x14\0\x0a\x0fframe too large\x10\x01";
 
 /// The half from which requests are read. A read that would have to wait returns `WouldBlock`. After the session's end it has let go of the
 /// socket, and reads as at the end of its input.
+///
+/// Clauses see which connection it is a half of, and what each of its reads gave.
 #[derive(Drop)]
 pub struct RequestHalf {
     socket: Option<Socket>,
     peer: SocketAddr,
+    /// How many connections its listener gave before, for clauses alone.
+    number: GhostValue<u64>,
+    /// What its reads gave, for clauses alone.
+    heard: GhostList<ReadNote>,
+}
+
+impl Model for RequestHalf {
+    ghost use Rattle.std.specs.Prelude.{None, Some};
+    ghost use Rattle.node_session.specs.Streams.{SourceView};
+
+    ghost Value = { SourceView };
+
+    ghost view = { λ half. record {
+      number = half.number;
+      unread = None;
+      heard = Some half.heard;
+    } };
+}
+
+/// A list of notes, and behind it that of one read.
+struct WithNote;
+
+impl<'a> Listing<(&'a GhostList<ReadNote>, &'a [u8], &'a io::Result<usize>), ReadNote>
+    for WithNote {
+    ghost use Rattle.std.specs.Prelude.{◌++◌, ◌∷◌, []};
+    ghost use Rattle.node_session.specs.Streams.{note_of};
+
+    ghost list = { λ of. of.0.now ++ note_of of.2.now of.1.now ∷ [] };
 }
 
 /// The half to which replies are written. It gathers them, up to 8,192 bytes or until it is flushed, for one write to the socket. A write that
 /// finds no room, and a flush, return `WouldBlock` while the socket doesn't take what is gathered. Where memory is refused for what is to be
 /// gathered, it is written to the socket at once. After the session's end it has let go of the socket, and takes nothing more.
 ///
-/// Clauses see all that was written to it: what the system took, what is gathered behind that, and what was let go of at the session's end.
+/// Clauses see which connection it is a half of, and all that was written to it: what the system took, what is gathered behind that, and what
+/// was let go of at the session's end.
 #[derive(Drop)]
 pub struct ReplyHalf {
     socket: Option<Socket>,
+    /// How many connections its listener gave before, for clauses alone.
+    number: GhostValue<u64>,
     /// Those before `sent` were sent.
     gathered: Vec<u8>,
     sent: usize,
@@ -57,6 +93,7 @@ impl Model for ReplyHalf {
     ghost Value = { RepliesView };
 
     ghost view = { λ half. record {
+      number = half.number;
       sent = half.taken;
       held = drop half.sent half.gathered.items;
       lost = half.lost;
@@ -83,6 +120,37 @@ impl<'a> Listing<(&'a GhostList<u8>, &'a [u8], usize), u8> for WithRest {
     ghost use Rattle.std.specs.Prelude.{◌++◌, drop};
 
     ghost list = { λ of. of.0.now ++ drop of.2 of.1.now };
+}
+
+/// Notes what came of a read into a buffer.
+fn note(heard: &mut GhostList<ReadNote>, buf: &[u8], came: &io::Result<usize>)
+    ensures { heard.new ≡ heard.old ++ note_of came.now buf.now ∷ [] }
+{
+    let of: (&GhostList<ReadNote>, &[u8], &io::Result<usize>) = (&*heard, buf, came);
+    *heard = GhostList::listed::<(&GhostList<ReadNote>, &[u8], &io::Result<usize>), WithNote>(&of);
+}
+
+/// Has the system put bytes into a buffer, and notes what came of that.
+fn receive(socket: &Socket, heard: &mut GhostList<ReadNote>, buf: &mut [u8]) -> io::Result<usize>
+    ensures bound { ReadsAtMost result buf.new }
+    ensures heard { heard.new ≡ heard.old ++ note_of result buf.new ∷ [] }
+{
+    socket.note_call();
+    let room = buf.len();
+    let came = if socket.is_drained() {
+        Err(ErrorKind::WouldBlock.into())
+    } else {
+        let mut stream = socket.stream();
+        let came = stream.read(buf);
+        socket.note_result(&came);
+        came
+    };
+    if let Ok(taken) = &came {
+        socket.note_received(*taken);
+        socket.note_read(*taken, room);
+    }
+    note(heard, buf, &came);
+    came
 }
 
 /// Hands bytes to the system, as many as it takes at once, which are noted behind those that it took before.
@@ -163,23 +231,18 @@ impl RequestHalf {
     }
 }
 
-impl Read for RequestHalf {
-    fn read(&mut self, buf: &mut [u8]) -> io::Result<usize> {
-        let Some(socket) = &self.socket else {
-            return Ok(0);
-        };
-        socket.note_call();
-        if socket.is_drained() {
-            return Err(ErrorKind::WouldBlock.into());
+impl Source for RequestHalf {
+    ghost source = { λ half. half };
+
+    fn receive(&mut self, buf: &mut [u8]) -> io::Result<usize> {
+        match &self.socket {
+            Some(socket) => receive(socket, &mut self.heard, buf),
+            None => {
+                let came = Ok(0);
+                note(&mut self.heard, buf, &came);
+                came
+            }
         }
-        let room = buf.len();
-        let mut stream = socket.stream();
-        let came = stream.read(buf);
-        socket.note_result(&came);
-        let taken = came?;
-        socket.note_received(taken);
-        socket.note_read(taken, room);
-        Ok(taken)
     }
 }
 
@@ -191,11 +254,12 @@ impl EndRead for RequestHalf {
 
 impl ReplyHalf {
     /// Of a socket to which nothing was written.
-    fn new(alloc: Global, socket: Socket) -> ReplyHalf
-        ensures { result ≡ record { sent = []; held = []; lost = [] } }
+    fn new(alloc: Global, socket: Socket, number: u64) -> ReplyHalf
+        ensures { result ≡ record { number = Some number; sent = []; held = []; lost = [] } }
     {
         ReplyHalf {
             socket: Some(socket),
+            number: GhostValue::some(&number),
             gathered: Vec::new(alloc),
             sent: 0,
             taken: GhostList::new(),
@@ -212,11 +276,12 @@ impl ReplyHalf {
     /// Writes all that is gathered to the socket. `WouldBlock` where that doesn't take it all now: then so many bytes behind it wait too.
     fn send_gathered(&mut self, behind: usize) -> io::Result<()>
         ensures kept { written self.new ≡ written self.old }
-        ensures all { OnOk result (self.new.held ≡ []) }
+        ensures all { OnOk result (waiting self.new ≡ []) }
         ensures lost { self.new.lost ≡ self.old.lost }
+        ensures number { self.new.number ≡ self.old.number }
     {
         let Some(socket) = &self.socket else {
-            return Ok(());
+            return Err(ErrorKind::NotConnected.into());
         };
         socket.note_handed(self.gathered.len().saturating_add(behind));
         send_rest(socket, &mut self.taken, &self.gathered, &mut self.sent)?;
@@ -232,6 +297,7 @@ impl ReplyHalf {
         ensures bytes { WriteAppends (Some (written self.old)) (Some (written self.new))
             result buf.now }
         ensures lost { self.new.lost ≡ self.old.lost }
+        ensures number { self.new.number ≡ self.old.number }
     {
         match &self.socket {
             Some(socket) => {
@@ -243,17 +309,16 @@ impl ReplyHalf {
     }
 }
 
-impl Write for ReplyHalf {
-    ghost use Rattle.std.specs.Prelude.{Some};
-    ghost use Rattle.socket_streams.specs.Sending.{written};
+impl Target for ReplyHalf {
+    ghost use Rattle.socket_streams.specs.Sending.{target_of_replies};
 
-    ghost contents = { λ half. Some (written half) };
+    ghost target = { target_of_replies };
 
-    fn write(&mut self, buf: &[u8]) -> io::Result<usize>
+    fn send(&mut self, buf: &[u8]) -> io::Result<usize>
         ensures bound { IfOk result (λ n. n ≤ length buf.now) }
         ensures bytes { WriteAppends (Some (written self.old)) (Some (written self.new))
             result buf.now }
-        ensures lost { self.new.lost ≡ self.old.lost }
+        ensures number { self.new.number ≡ self.old.number }
     {
         self.is_too_large = buf == FRAME_TOO_LARGE;
         if self.gathered.len() >= MAX_GATHERED {
@@ -277,8 +342,8 @@ impl Write for ReplyHalf {
 
     fn flush(&mut self) -> io::Result<()>
         ensures bytes { written self.new ≡ written self.old }
-        ensures all { OnOk result (self.new.held ≡ []) }
-        ensures lost { self.new.lost ≡ self.old.lost }
+        ensures all { OnOk result (waiting self.new ≡ []) }
+        ensures number { self.new.number ≡ self.old.number }
     {
         self.send_gathered(0)?;
         shrink_empty(&mut self.gathered);
@@ -290,7 +355,9 @@ impl EndWrite for ReplyHalf {
     fn ended(&mut self)
         ensures bytes { written self.new ≡ written self.old }
         ensures sent { self.new.sent ≡ self.old.sent }
+        ensures waits { waiting self.new ≡ waiting self.old }
         ensures none { self.new.held ≡ [] }
+        ensures number { self.new.number ≡ self.old.number }
     {
         self.socket = None;
         let unsent: (&GhostList<u8>, &[u8], usize) = (&self.lost, &self.gathered, self.sent);
@@ -309,13 +376,17 @@ pub(crate) fn new_socket(alloc: Global, stream: TcpStream) -> Result<Socket, Tcp
     }
 }
 
-/// Has a socket not wait, and send replies without delay. Its halves; refused by the system alone.
+/// Has a socket not wait, and send replies without delay. The halves of this connection; refused by the system alone.
 pub(crate) fn new_halves(
     alloc: Global,
     socket: Socket,
     peer: SocketAddr,
+    number: u64,
 ) -> io::Result<(RequestHalf, ReplyHalf)>
-    ensures { IfOk result (λ halves. written halves.1 ≡ []) }
+    ensures reader { IfOk result (λ halves.
+        halves.0 ≡ record { number = Some number; unread = None; heard = Some [] }) }
+    ensures writer { IfOk result (λ halves.
+        halves.1 ≡ record { number = Some number; sent = []; held = []; lost = [] }) }
 {
     socket.stream().set_nonblocking(true)?;
     socket.stream().set_nodelay(true)?;
@@ -323,6 +394,8 @@ pub(crate) fn new_halves(
     let reader = RequestHalf {
         socket: Some(socket),
         peer,
+        number: GhostValue::some(&number),
+        heard: GhostList::new(),
     };
-    Ok((reader, ReplyHalf::new(alloc, theirs)))
+    Ok((reader, ReplyHalf::new(alloc, theirs, number)))
 }

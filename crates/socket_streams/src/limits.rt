@@ -6,6 +6,8 @@ use crate::run_signals::RunSignals;
 /// How many connections of a listener are accepted, and how often that is tried.
 #[derive(Clone, Copy)]
 pub struct Limits {
+    /// How many the run has accepted before, behind whose numbers theirs begin.
+    pub before: u64,
     /// How many are accepted at most, if there is such a number.
     pub connections: Option<u64>,
     /// Whether one that is closed for want of memory is one of those that were accepted.

@@ -3,6 +3,7 @@ use Rattle.std.proofs.Common.{ℕ, List, [], ◌∷◌, map}
 use Rattle.std.proofs.lemmas.List.Elements.{All-cons, All-nil}
 use Rattle.std.specs.Prelude.{Option}
 use Rattle.job_pool.specs.Lists.{Pairwise}
+use Rattle.node_session.specs.Streams.{SourceView, TargetView}
 use Rattle.gate_node.specs.Gates.{Gates}
 use Rattle.gate_node.specs.GateStep.{GateNodeStep}
 use Rattle.gate_node.specs.OneHistory.{CallersAreOfRun}
@@ -21,16 +22,16 @@ module _ {I O : Type 0} (shared : Gates) where
   whole_of_run [] h = All-nil HasPassesOf
   whole_of_run (end ∷ ends) h = All-cons HasPassesOf end ends h.0 (whole_of_run ends h.1)
 
-  module _ (remaining : I → Option (List ℕ)) (contents : O → Option (List ℕ)) where
+  module _ (source : I → SourceView) (target : O → TargetView) where
     -- sessions end with passes of the gates
-    pub served_of_run : (jobs : List (Job I O)) (all : List (ServedJob I O)) → Pairwise (Serves GateNodeStep remaining contents shared) jobs all → WereOfRun shared all
+    pub served_of_run : (jobs : List (Job I O)) (all : List (ServedJob I O)) → Pairwise (Serves GateNodeStep source target shared) jobs all → WereOfRun shared all
     served_of_run [] [] h = tt
     served_of_run [] (one ∷ all) h = absurd h
     served_of_run (job ∷ jobs) [] h = absurd h
     served_of_run (job ∷ jobs) (one ∷ all) h = (h.0.2.kept, served_of_run jobs all h.1)
 
     -- and so with those of a run at none of whose answers the book was full
-    pub ends_of_run : (jobs : List (Job I O)) (ends : List (End I O)) → Pairwise (EndsWell GateNodeStep remaining contents shared) jobs ends → CallersAreOfRun end_passes shared ends
+    pub ends_of_run : (jobs : List (Job I O)) (ends : List (End I O)) → Pairwise (EndsWell GateNodeStep source target shared) jobs ends → CallersAreOfRun end_passes shared ends
     ends_of_run [] [] h = All-nil HasPassesOf
     ends_of_run [] (end ∷ ends) h = absurd h
     ends_of_run (job ∷ jobs) [] h = absurd h

@@ -5,6 +5,7 @@ use Rattle.job_pool.specs.Giving.{AllServed, GaveAll}
 use Rattle.job_pool.specs.Lists.{Pairwise}
 use Rattle.job_pool.specs.Turns.{ServedOnce}
 use Rattle.job_pool.specs.declared.jobs.JobFault.{JobFault}
+use Rattle.node_session.specs.Streams.{SourceView, TargetView}
 use Rattle.stats_book.specs.Counting.{sum_of, zeros}
 use Rattle.stats_book.specs.declared.totals.Totals.{Totals}
 use Rattle.gate_node.specs.Gates.{Gates}
@@ -31,37 +32,37 @@ abbrev pub AllServedOnce : {J I O : Type 0} → (J → Result (Option (Job I O))
 AllServedOnce {J} {I} {O} Gives Serves first firsts ends lasts last = (jobs : List (Job I O)) × GaveAll Gives first jobs last × ServedOnce Serves jobs firsts ends lasts
 
 -- by workers that began in these states, over gates that are the run's own
-pub over_own : {J I O : Type 0} (Gives : J → Result (Option (Job I O)) JobFault → J → Type 0) (remaining : I → Option (List ℕ)) (contents : O → Option (List ℕ)) (own shared : Gates) (first last : J) (began firsts : List Totals) (served : List (ServedJob I O)) (lasts : List Totals) → own ≡ shared → began ≡ firsts
-    → (jobs : List (Job I O)) → GaveAll Gives first jobs last → ServedOnce (Counts remaining contents own) jobs began served lasts → AllServedOnce Gives (Counts remaining contents shared) first firsts served lasts last
-over_own Gives remaining contents own shared first last began firsts served lasts is same jobs gave once = (
+pub over_own : {J I O : Type 0} (Gives : J → Result (Option (Job I O)) JobFault → J → Type 0) (source : I → SourceView) (target : O → TargetView) (own shared : Gates) (first last : J) (began firsts : List Totals) (served : List (ServedJob I O)) (lasts : List Totals) → own ≡ shared → began ≡ firsts
+    → (jobs : List (Job I O)) → GaveAll Gives first jobs last → ServedOnce (Counts source target own) jobs began served lasts → AllServedOnce Gives (Counts source target shared) first firsts served lasts last
+over_own Gives source target own shared first last began firsts served lasts is same jobs gave once = (
   jobs,
   gave,
-  subst (λ (gates : Gates). ServedOnce (Counts remaining contents gates) jobs firsts served lasts) is (subst (λ (states : List Totals). ServedOnce (Counts remaining contents own) jobs states served lasts) same once),
+  subst (λ (gates : Gates). ServedOnce (Counts source target gates) jobs firsts served lasts) is (subst (λ (states : List Totals). ServedOnce (Counts source target own) jobs states served lasts) same once),
 )
 
-module _ {J I O : Type 0} (Gives : J → Result (Option (Job I O)) JobFault → J → Type 0) (remaining : I → Option (List ℕ)) (contents : O → Option (List ℕ)) (shared : Gates) (first last : J) where
+module _ {J I O : Type 0} (Gives : J → Result (Option (Job I O)) JobFault → J → Type 0) (source : I → SourceView) (target : O → TargetView) (shared : Gates) (first last : J) where
   -- the jobs of the source were served
-  pub source_served : (firsts : List Totals) (served : List (ServedJob I O)) (lasts : List Totals) → AllServedOnce Gives (Counts remaining contents shared) first firsts served lasts last → AllServed Gives (Serves GateNodeStep remaining contents shared) first served last
-  source_served firsts served lasts h = (h.0, h.1, served_all remaining contents shared h.0 firsts served lasts h.2)
+  pub source_served : (firsts : List Totals) (served : List (ServedJob I O)) (lasts : List Totals) → AllServedOnce Gives (Counts source target shared) first firsts served lasts last → AllServed Gives (Serves GateNodeStep source target shared) first served last
+  source_served firsts served lasts h = (h.0, h.1, served_all source target shared h.0 firsts served lasts h.2)
 
   -- and their sessions were by steps in one history of each vnode
   pub serves_source : (n : ℕ) (firsts : List Totals) (served : List (ServedJob I O)) (lasts : List Totals) (closed : Closed I O) → firsts ≡ replicate n zeros → map counted_whole closed.ends.items ≡ served → ShareHistories end_passes shared.gates closed.ends.items closed.tallies.items closed.count_all → closed.totals ≡ sum_of lasts
-      → AllServedOnce Gives (Counts remaining contents shared) first firsts served lasts last → ServesSource remaining contents shared Gives n first closed last
+      → AllServedOnce Gives (Counts source target shared) first firsts served lasts last → ServesSource source target shared Gives n first closed last
   serves_source n firsts served lasts closed new whole h sums once =
-      let S : Job I O → ServedJob I O → Type 0 = Serves GateNodeStep remaining contents shared in
+      let S : Job I O → ServedJob I O → Type 0 = Serves GateNodeStep source target shared in
       let jobs = once.0 in
       let ends = closed.ends.items in
-      let all = served_all remaining contents shared jobs firsts served lasts once.2 in
-      let ended : Pairwise (EndsWell GateNodeStep remaining contents shared) jobs ends = pairwise_whole S jobs ends (subst (λ l. Pairwise S jobs l) (sym whole) all) in
-      let seen = each_seen end_passes shared h.histories h.of_gates ends (ends_of_run shared remaining contents jobs ends ended) h.seen in (
+      let all = served_all source target shared jobs firsts served lasts once.2 in
+      let ended : Pairwise (EndsWell GateNodeStep source target shared) jobs ends = pairwise_whole S jobs ends (subst (λ l. Pairwise S jobs l) (sym whole) all) in
+      let seen = each_seen end_passes shared h.histories h.of_gates ends (ends_of_run shared source target jobs ends ended) h.seen in (
         jobs,
         once.1,
         record {
           histories = h.histories;
           of_gates = h.of_gates;
-          ends = ends_in h.histories remaining contents shared jobs ends seen ended;
+          ends = ends_in h.histories source target shared jobs ends seen ended;
           tallies = h.tallied;
           counted = h.counted;
-          totals = sums_sessions remaining contents shared n jobs firsts served lasts ends closed.totals new whole sums once.2;
+          totals = sums_sessions source target shared n jobs firsts served lasts ends closed.totals new whole sums once.2;
         },
       )

@@ -4,10 +4,12 @@ use Rattle.std.specs.Prelude.{List, Result, Ok, Err}
 use Rattle.node_session.specs.Answered.{AnsweredInput}
 use Rattle.node_session.specs.Stages.{IsOverBy}
 use Rattle.node_session.specs.Session.{IsInputEnd, Stops}
+use Rattle.node_session.specs.Streams.{SourceView, TargetView, input_of}
 use Rattle.node_session.specs.declared.ended.Ended.{Ended}
 use Rattle.node_session.specs.declared.fault.SessionFault.{SessionFault}
 use Rattle.node_session.proofs.HandingBack.{Held, end_in, stops_in}
 use Rattle.node_session.proofs.Simulating.{end_like, stops_like}
+use Rattle.node_session.proofs.Streaming.{given_as}
 use Rattle.gate_node.specs.Gates.{Gates}
 use Rattle.gate_node.specs.GateStep.{NodeOverGates, GateNodeStep, Request, Reply}
 use Rattle.gate_node.proofs.Keeping.{step-keeps}
@@ -45,27 +47,25 @@ module _ (shared : Gates) where
       let is : on ≡ s = λ i. record { shared = there i; passes = goes_on.passes i; count = goes_on.count i } in
       (s', (refl, kept ∙ here), subst (λ (node : NodeOverGates). GateNodeStep node request reply s') (is ∙ sym same.0) made)
 
-  pub over_same : (first last : NodeOverGates) (u u' h h' : Option (List ℕ)) (most : ℕ) (result : Result Ended SessionFault) → first.shared ≡ shared → IsLater last.shared shared
-      → IsOverBy RunStep first last u u' h h' most result → IsOverBy GateNodeStep first last u u' h h' most result
-  over_same first last u u' h h' most (Ok e) here reaches p =
-      let held = end_in RunStep Reaches reached_before first last p.0.input h h' e.replies e.rest p.0.serves reaches in
-      let made = end_like HeldStep GateNodeStep Same goes first last first p.0.input h h' e.replies e.rest (refl, here) held in (
-        record {
-          input = p.0.input;
-          read = p.0.read;
-          bound = p.0.bound;
-          serves = subst (λ (node : NodeOverGates). AnsweredInput GateNodeStep first p.0.input h h' e.replies (IsInputEnd node e.rest)) made.1.0 made.2;
-        },
-        p.1,
-      )
-  over_same first last u u' h h' most (Err fault) here reaches p =
-      let held = stops_in RunStep Reaches reached_before first last p.0.input h h' fault p.0.serves reaches in
-      let made = stops_like HeldStep GateNodeStep Same goes first last first p.0.input h h' fault (refl, here) held in (
-        record {
-          input = p.0.input;
-          read = p.0.read;
-          bound = p.0.bound;
-          serves = subst (λ (node : NodeOverGates). Stops GateNodeStep first node p.0.input h h' fault) made.1.0 made.2;
-        },
-        p.1,
-      )
+  pub over_same : (first last : NodeOverGates) (source source' : SourceView) (target target' : TargetView) (most : ℕ) (result : Result Ended SessionFault) → first.shared ≡ shared → IsLater last.shared shared
+      → IsOverBy RunStep first last source source' target target' most result → IsOverBy GateNodeStep first last source source' target target' most result
+  over_same first last source source' target target' most (Ok e) here reaches p = (
+    given_as source source' most _ _ (λ noted served. (
+      (let held = end_in RunStep Reaches reached_before first last (input_of noted) target.contents target'.contents e.replies e.rest served.0 reaches in
+          let made = end_like HeldStep GateNodeStep Same goes first last first (input_of noted) target.contents target'.contents e.replies e.rest (refl, here) held in
+          subst (λ (node : NodeOverGates). AnsweredInput GateNodeStep first (input_of noted) target.contents target'.contents e.replies (IsInputEnd node e.rest)) made.1.0 made.2),
+      served.1,
+    )) p.0,
+    p.1,
+    p.2,
+    p.3,
+  )
+  over_same first last source source' target target' most (Err fault) here reaches p = (
+    given_as source source' most _ _ (λ noted served. (
+      (let held = stops_in RunStep Reaches reached_before first last (input_of noted) target.contents target'.contents fault served.0 reaches in
+          let made = stops_like HeldStep GateNodeStep Same goes first last first (input_of noted) target.contents target'.contents fault (refl, here) held in
+          subst (λ (node : NodeOverGates). Stops GateNodeStep first node (input_of noted) target.contents target'.contents fault) made.1.0 made.2),
+      served.1,
+    )) p.0,
+    p.1,
+  )

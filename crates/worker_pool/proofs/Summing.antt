@@ -7,6 +7,7 @@ use Rattle.job_pool.specs.Lists.{Pairwise}
 use Rattle.job_pool.specs.Turns.{ServedOnce}
 use Rattle.job_pool.proofs.Lists.{pairs_more}
 use Rattle.job_pool.proofs.Once.{once_pairs, once_sums}
+use Rattle.node_session.specs.Streams.{SourceView, TargetView}
 use Rattle.stats_book.specs.Counting.{both, sum_of, zeros}
 use Rattle.stats_book.specs.declared.totals.Totals.{Totals}
 use Rattle.gate_node.specs.Gates.{Gates}
@@ -62,17 +63,17 @@ module _ {I O : Type 0} (R : Totals → Job I O → Totals → ServedJob I O →
       let reaps = number_raised (λ t. t.reaps) refl (λ a b. refl) R jobs n ends lasts h in
       λ i. record { gets = gets i; puts = puts i; deletes = deletes i; refusals = refusals i; reaps = reaps i }
 
-module _ {I O : Type 0} (remaining : I → Option (List ℕ)) (contents : O → Option (List ℕ)) (shared : Gates) where
+module _ {I O : Type 0} (source : I → SourceView) (target : O → TargetView) (shared : Gates) where
   abbrev pub Counts : Totals → Job I O → Totals → ServedJob I O → Type 0
-  Counts = CountsInSession remaining contents shared
+  Counts = CountsInSession source target shared
 
   -- each job was served
-  pub served_all : (jobs : List (Job I O)) (firsts : List Totals) (ends : List (ServedJob I O)) (lasts : List Totals) → ServedOnce Counts jobs firsts ends lasts → Pairwise (Serves GateNodeStep remaining contents shared) jobs ends
+  pub served_all : (jobs : List (Job I O)) (firsts : List Totals) (ends : List (ServedJob I O)) (lasts : List Totals) → ServedOnce Counts jobs firsts ends lasts → Pairwise (Serves GateNodeStep source target shared) jobs ends
   served_all jobs firsts ends lasts h = pairs_more (λ job served was. (was.2.0, was.2.1, was.2.4)) jobs ends (once_pairs Counts jobs firsts ends lasts h)
 
   -- and by the sums of the shares the sessions raised the numbers
   pub sums_sessions : (n : ℕ) (jobs : List (Job I O)) (firsts : List Totals) (served : List (ServedJob I O)) (lasts : List Totals) (ends : List (End I O)) (totals : Totals) → firsts ≡ replicate n zeros → map counted_whole ends ≡ served → totals ≡ sum_of lasts → ServedOnce Counts jobs firsts served lasts
-      → SumsSessions remaining contents shared n jobs ends totals
+      → SumsSessions source target shared n jobs ends totals
   sums_sessions n jobs firsts served lasts ends totals new whole sums h =
       let once : ServedOnce Counts jobs (replicate n zeros) (map counted_whole ends) lasts = subst (λ es. ServedOnce Counts jobs (replicate n zeros) es lasts) (sym whole) (subst (λ fs. ServedOnce Counts jobs fs served lasts) new h) in
       record {

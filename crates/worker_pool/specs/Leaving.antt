@@ -2,6 +2,7 @@
 use Rattle.std.specs.Prelude.{◌≡◌, ◌⊎◌, ℕ, true, List, [], ◌∷◌, Option, Result, map}
 use Rattle.job_pool.specs.Giving.{AllServed, GaveAll, GaveSome, GaveThenFailed}
 use Rattle.job_pool.specs.declared.jobs.JobFault.{JobFault}
+use Rattle.node_session.specs.Streams.{SourceView, TargetView}
 use Rattle.stats_book.specs.Counting.{ArePastFull, sum_of, zeros}
 use Rattle.stats_book.specs.declared.totals.Totals.{Totals}
 use Rattle.gate_node.specs.Gates.{Gates}
@@ -37,10 +38,10 @@ IsFaultAfter served workers NoThread = ⊥
 IsFaultAfter served workers JobsFailed = ⊥
 IsFaultAfter served workers BookFull = MetFullBook served ⊎ ArePastTogether served workers
 
-module _ {J I O : Type 0} (Gives : J → Result (Option (Job I O)) JobFault → J → Type 0) (remaining : I → Option (List ℕ)) (contents : O → Option (List ℕ)) (shared : Gates) where
+module _ {J I O : Type 0} (Gives : J → Result (Option (Job I O)) JobFault → J → Type 0) (source : I → SourceView) (target : O → TargetView) (shared : Gates) where
   -- all jobs were served, and at the end of one of the sessions its worker had no room for what it had counted
   abbrev pub ServedPastFullBook : J → J → Type 0
-  ServedPastFullBook first last = (served : List (ServedJob I O)) × AllServed Gives (Serves GateNodeStep remaining contents shared) first served last × MetFullBook served
+  ServedPastFullBook first last = (served : List (ServedJob I O)) × AllServed Gives (Serves GateNodeStep source target shared) first served last × MetFullBook served
 
   -- all jobs were served, and at none of the ends a worker had no room, but what the sessions counted would pass the last number together
   pub record ServedPastSums (first last : J) : Type 0 where
@@ -49,7 +50,7 @@ module _ {J I O : Type 0} (Gives : J → Result (Option (Job I O)) JobFault → 
     pub gave : GaveAll Gives first jobs last
     pub ends : List (End I O)
     pub totals : Totals
-    pub sums : SumsSessions remaining contents shared workers jobs ends totals
+    pub sums : SumsSessions source target shared workers jobs ends totals
     pub past : ArePastFull zeros totals
 
   -- what is left of the source of jobs

@@ -1,22 +1,21 @@
 //! A connection to be served, and what it comes to.
-ghost use Rattle.std.specs.Io.KnownBytes.{Keeps};
+ghost use Rattle.std.specs.Prelude.{◌≡◌};
 
 use gate_node::{HasPasses, Passes};
-use node_session::{Ended, SessionFault};
-use std::io::{Read, Write};
+use node_session::{Ended, SessionFault, Source, Target};
 
 /// A reader whose `ended` is called once, after its session.
-pub trait EndRead: Read {
+pub trait EndRead: Source {
     /// The session is over. What is unread stays so.
     fn ended(&mut self)
-        ensures { Keeps (Self.remaining self.old) (Self.remaining self.new) };
+        ensures { Self.source self.new ≡ Self.source self.old };
 }
 
 /// A writer whose `ended` is called once, after its session.
-pub trait EndWrite: Write {
+pub trait EndWrite: Target {
     /// The session is over. What was written stays so.
     fn ended(&mut self)
-        ensures { Keeps (Self.contents self.old) (Self.contents self.new) };
+        ensures { Self.target self.new ≡ Self.target self.old };
 }
 
 /// A connection to be served, by these passes of a run's gates.

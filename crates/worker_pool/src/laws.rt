@@ -11,7 +11,7 @@ ghost use Rattle.worker_pool.specs.Legal.{PlainRunIsLegal};
 /// It asks that no partition of the run has a fallback, and that the tallies count all of the histories (`count_all` of [`Closed`](crate::Closed)); that the
 /// gates are those of a new run `Shared` says.
 pub fn pool_replies_are_legal<I, O>()
-    ensures { (remaining : I → Option (List ℕ)) (contents : O → Option (List ℕ)) (shared : Gates)
+    ensures { (source : I → SourceView) (target : O → TargetView) (shared : Gates)
         (workers : ℕ) (jobs : List (Job I O)) (closed : Closed I O)
-        → PlainRunIsLegal remaining contents shared workers jobs closed }
+        → PlainRunIsLegal source target shared workers jobs closed }
 {}

@@ -112,10 +112,10 @@ where
     requires posts { length posts.items ≡ workers }
     requires jobs { GivesOnly J.gives (IsForGates shared.now) jobs.old }
     ensures served { IfOk result (λ closed.
-        ServesSource I.remaining O.contents shared.now J.gives workers
+        ServesSource I.source O.target shared.now J.gives workers
         jobs.old closed jobs.new) }
     ensures fault { IfErr result (λ fault.
-        LeavesSource J.gives I.remaining O.contents shared.now fault jobs.old jobs.new) }
+        LeavesSource J.gives I.source O.target shared.now fault jobs.old jobs.new) }
 {
     let Ok(worker_setups) = new_worker_setups(alloc, workers, posts) else {
         return Err(PoolFault::NoMemory);
@@ -181,10 +181,10 @@ impl Pool {
         requires workers { (1 ≤ workers) × (workers ≤ 64) }
         requires jobs { GivesOnly J.gives (IsForGates shared.now) jobs.old }
         ensures served { IfOk result (λ closed.
-            ServesSource I.remaining O.contents shared.now J.gives workers
+            ServesSource I.source O.target shared.now J.gives workers
             jobs.old closed jobs.new) }
         ensures fault { IfErr result (λ fault.
-            LeavesSource J.gives I.remaining O.contents shared.now fault jobs.old jobs.new) }
+            LeavesSource J.gives I.source O.target shared.now fault jobs.old jobs.new) }
     {
         let Ok(posts) = new_rounds(alloc, workers) else {
             return Err(PoolFault::NoMemory);
@@ -226,10 +226,10 @@ impl Pool {
         requires posts { length posts.items ≡ workers }
         requires jobs { GivesOnly J.gives (IsForGates shared.now) jobs.old }
         ensures served { IfOk result (λ closed.
-            ServesSource I.remaining O.contents shared.now J.gives workers
+            ServesSource I.source O.target shared.now J.gives workers
             jobs.old closed jobs.new) }
         ensures fault { IfErr result (λ fault.
-            LeavesSource J.gives I.remaining O.contents shared.now fault jobs.old jobs.new) }
+            LeavesSource J.gives I.source O.target shared.now fault jobs.old jobs.new) }
     {
         run_at_posts::<Brand, X, J, I, O, T, Y, B>(
             rt,

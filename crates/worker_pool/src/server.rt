@@ -46,11 +46,11 @@ where
     ghost accepts = { λ server job. IsForGates server.session_service job };
 
     ghost stands = { λ server job opened.
-        StandsFor I.remaining O.contents server.session_service job opened };
+        StandsFor I.source O.target server.session_service job opened };
 
     ghost is_over = { λ opened. IsOver opened.session.stage };
 
-    ghost serves = { λ server. CountsInSession I.remaining O.contents server.session_service };
+    ghost serves = { λ server. CountsInSession I.source O.target server.session_service };
 
     fn open(
         &self,

@@ -5,6 +5,7 @@ use Rattle.std.specs.Prelude.{Option}
 use Rattle.job_pool.specs.Lists.{Every, concat}
 use Rattle.job_pool.proofs.Lists.{all_more}
 use Rattle.job_pool.specs.declared.worker.NumberedEnd.{NumberedEnd}
+use Rattle.node_session.specs.Streams.{SourceView, TargetView}
 use Rattle.gate_node.specs.Gates.{Gates}
 use Rattle.gate_node.specs.Passes.{Sights}
 use Rattle.session_pool.specs.declared.end_sink.SessionEnd.{SessionEnd}
@@ -38,15 +39,15 @@ module _ {A : Type 0} where
   joined_all all left whole none h = sym h ∙ ap (λ (ls : List (Vec A Global)). all ++ joined ls) none ∙ append-nil all
 
 module _ {R W : Type 0} where
-  module _ (may_rest : Type 0) (remaining : R → Option (List ℕ)) (contents : W → Option (List ℕ)) (shared : Gates) where
-    rested_go_on : (given : List (PausedSessionView R W)) (rested : List (RestedSession R W)) → Every (IsRestedSession remaining contents shared given may_rest) rested → Every (CanGoOn shared) (map now_of rested)
+  module _ (may_rest : Type 0) (source : R → SourceView) (target : W → TargetView) (shared : Gates) where
+    rested_go_on : (given : List (PausedSessionView R W)) (rested : List (RestedSession R W)) → Every (IsRestedSession source target shared given may_rest) rested → Every (CanGoOn shared) (map now_of rested)
     rested_go_on given [] h = tt
     rested_go_on given (one ∷ rested) h =
         (record { later = subst (λ (gates : Gates). IsLater gates shared) (sym h.0.rests.over) (later_same shared); room = h.0.rests.room refl }, rested_go_on given rested h.1)
 
     -- what rests of a run may go on over its gates
     pub rest_goes_on : {K : Type 0} (told : K → List (NumberedEnd (SessionEnd R W))) (given : List (PausedSessionView R W)) (first : Sights) (served : ServedSessions R W K) (seen : Sights)
-        → TellsAll may_rest remaining contents told shared given first served seen → Every (CanGoOn shared) (concat (map (λ one. one.items) served.resting.items))
+        → TellsAll may_rest source target told shared given first served seen → Every (CanGoOn shared) (concat (map (λ one. one.items) served.resting.items))
     rest_goes_on told given first served seen tells = subst (Every (CanGoOn shared)) tells.rests (rested_go_on given tells.rested tells.each_rests)
 
   -- and over what they become

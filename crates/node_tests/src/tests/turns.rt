@@ -6,7 +6,7 @@ ghost use Rattle.std.specs.Prelude.{◌<◌};
 use crate::tests::frames::{PING, PONG, STORED};
 use crate::tests::sessions::{Part, Session, joined};
 use crate::tests::streams::{Call, Channel, Trouble, attempt};
-use node_session::{Ended, PlainNode, Scratch, SessionFault};
+use node_session::{Ended, Plain, PlainNode, Scratch, SessionFault};
 use std::alloc::Global;
 use std::cell::Cell;
 use std::io;
@@ -91,7 +91,7 @@ fn outcome_of(
         if let Some(result) = session.outcome() {
             return Some(result);
         }
-        let _waits = session.step(alloc, source, sink, node, scratch);
+        let _waits = session.step::<_, Plain, _, _>(alloc, source, sink, node, scratch, true);
     }
     None
 }

@@ -1,4 +1,5 @@
 //! Readers and writers of the tests, and what they count.
+use node_session::{Source, Target};
 use std::alloc::Global;
 use std::io;
 use std::io::{ErrorKind, Read, Write};
@@ -69,6 +70,17 @@ impl Read for Input {
     }
 }
 
+impl Source for Input {
+    ghost use Rattle.std.specs.Prelude.{Some};
+    ghost use Rattle.node_session.specs.Streams.{source_of};
+
+    ghost source = { λ input. source_of (Some input.rest.now) };
+
+    fn receive(&mut self, buf: &mut [u8]) -> io::Result<usize> {
+        self.read(buf)
+    }
+}
+
 impl EndRead for Input {
     fn ended(&mut self) {
         self.ended = self.ended.saturating_add(1);
@@ -115,6 +127,21 @@ impl Write for Output {
 
     fn flush(&mut self) -> io::Result<()> {
         Ok(())
+    }
+}
+
+impl Target for Output {
+    ghost use Rattle.std.specs.Prelude.{Some};
+    ghost use Rattle.node_session.specs.Streams.{target_of};
+
+    ghost target = { λ output. target_of (Some output.held.items) };
+
+    fn send(&mut self, bytes: &[u8]) -> io::Result<usize> {
+        self.write(bytes)
+    }
+
+    fn flush(&mut self) -> io::Result<()> {
+        Write::flush(self)
     }
 }
 

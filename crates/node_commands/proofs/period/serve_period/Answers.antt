@@ -8,7 +8,7 @@ use Rattle.node_commands.proofs.period.serve_period.Goals as goal
 
 pub serve-requires-clause-sessions : goal.serve-requires-clause-sessions
 serve-requires-clause-sessions g c κs within =
-    let source : c.new-sessions.result.source ≡ new_source c.args.shared.now c.left_of.result = c.new-sessions.ensures.source ∙ c.in-Ok-new.ensures in
+    let source : c.new-sessions.result.source ≡ new_source c.args.shared.now c.args.progress.connections c.left_of.result = c.new-sessions.ensures.source ∙ c.in-Ok-new.ensures in
     made_for c.args.shared.now (rested_in c.args.progress) c.new-sessions.result c.requires.ready.rested c.new-sessions.ensures.rested
     (ap (λ (s : ArrivalsView). s.gates) source)
 

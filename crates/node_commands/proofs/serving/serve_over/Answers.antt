@@ -14,6 +14,6 @@ returns-in-Ok-run_with g c =
     record {
       jobs = all.0;
       count = gave_just first all.0 last c.args.connections (ap (λ v. v.limit) is ∙ ap Some c.from.ensures) (ap (λ v. v.counts_refused) is) (ap (λ v. v.can_stop) is) (ap (λ v. v.given) is) all.1;
-      new = new_for first c.args.shared.now (ap (λ v. v.gates) is) all.0 last all.1;
+      new = new_for first c.args.shared.now 0 (ap (λ v. v.gates) is) (ap (λ v. v.before) is) (ap (λ v. v.given) is) all.0 last all.1;
       served = all.2;
     }

@@ -4,7 +4,7 @@ use Rattle.std.proofs.lemmas.Result.{IfOk-weaker}
 use Rattle.session_pool.specs.Telling.{TellsSource}
 use Rattle.socket_streams.specs.Arriving.{ArrivalsView}
 use Rattle.socket_streams.specs.Sessions.{GivesSession, in_turn}
-use Rattle.node_commands.specs.Runs.{ToldConnections, replies_of}
+use Rattle.node_commands.specs.Runs.{ToldConnections, replies_of, requests_of}
 use Rattle.node_commands.proofs.Begun.{all_begun, are_told, begun_may}
 use Rattle.node_commands.proofs.Sources.{gave_all, within}
 use Rattle.node_commands.proofs.until.serve_over.Goals as goal
@@ -22,8 +22,8 @@ returns-in-Ok-serve-clause-served g c =
     let none = c.new-sessions.ensures.rested ∙ ap (λ l. in_turn (map (λ one. one.items) l)) c.new-3.ensures.items in
     let source = c.new-sessions.ensures.source ∙ c.in-Ok-new.ensures in
     IfOk-weaker c.tally.result _ _ (λ outcome t.
-    are_told first last shared c.in-Ok-new-2.seen c.serve.new.seen outcome none (ap (λ (s : ArrivalsView). s.gates) source) (ap (λ (s : ArrivalsView). s.given) source) c.in-Ok-new-2.ensures.new c.in-Ok-serve.ensures.passes
-    (subst (λ served. TellsSource ⊥ (λ _. None) replies_of (λ (sink : ToldConnections). sink) shared GivesSession first c.in-Ok-new-2.seen served last c.serve.new.seen) (sym t.served_is) c.in-Ok-serve.ensures.served)
+    are_told first last shared c.in-Ok-new-2.seen c.serve.new.seen outcome none (ap (λ (s : ArrivalsView). s.gates) source) (ap (λ (s : ArrivalsView). s.before) source) (ap (λ (s : ArrivalsView). s.given) source) c.in-Ok-new-2.ensures.new c.in-Ok-serve.ensures.passes
+    (subst (λ served. TellsSource ⊥ requests_of replies_of (λ (sink : ToldConnections). sink) shared GivesSession first c.in-Ok-new-2.seen served last c.serve.new.seen) (sym t.served_is) c.in-Ok-serve.ensures.served)
     (t.connections_are ∙ c.accepted-connections.ensures.count) (t.closed_are ∙ c.refused-closed.ensures)
     (record { served_is = refl; connections_are = refl; closed_are = refl; history = t.history })) c.tally.ensures
 

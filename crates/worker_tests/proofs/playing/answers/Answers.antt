@@ -4,4 +4,4 @@ use Rattle.worker_tests.proofs.playing.answers.Goals as goal
 pub returns : goal.returns
 returns g c =
     let said = c.serve-result.ensures in
-    session_keeps c.args.node.now c.serve-result.new.node _ _ _ _ _ c.serve-result.result said.ended said.all said.stopped said.too_many
+    session_keeps c.args.node.now c.serve-result.new.node _ _ _ _ _ c.serve-result.result said.ended said.all said.stopped

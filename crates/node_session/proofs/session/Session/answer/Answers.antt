@@ -38,4 +38,4 @@ returns-in-Lost-clause-goes g c =
     let t = c.answer_next.new.self in
     let told = subst (λ s. AnswersNext step c.args.node.now c.answer_next.new.node s t c.answer_next.result) c.give_back.ensures c.answer_next.ensures in
     let lost = subst (AnswersNext step c.args.node.now c.answer_next.new.node was.buffers t) c.in-Lost.is told in
-    λ u' h' first u h p. to_lost step first c.args.node.now u u' h h' was.buffers was.replies was.made was.most p c.is_read.ensures c.answer_next.new.node t lost
+    λ u' h' first u h p. to_lost step first c.args.node.now u u' h h' h' was.buffers was.replies was.made was.most p c.is_read.ensures c.answer_next.new.node t lost

@@ -17,4 +17,4 @@ returns-else-waiting-gt0-clause-goes g c =
 pub returns-in-Failed-clause-goes : goal.returns-in-Failed-clause-goes
 returns-in-Failed-clause-goes g c =
     let was = c.args.self.now in
-    λ now u' first u h p. sending_failed g.N.Node.step first now u u' h _ was.buffers was.replies was.made was.most _ p c.requires.1 c.in-Failed.ensures
+    λ now u' first u h p. sending_failed g.N.Node.step first now u u' h _ _ was.buffers was.replies was.made was.most p c.requires.1 c.in-Failed.ensures

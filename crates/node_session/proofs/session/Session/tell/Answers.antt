@@ -17,4 +17,4 @@ pub returns-in-Failed-clause-goes : goal.returns-in-Failed-clause-goes
 returns-in-Failed-clause-goes g c =
     let was = c.args.self.now in
     let some = some_unsent c.pending.result.now _ c.pending.ensures (tested c.pending.result.now c.is_empty.result c.is_empty.ensures c.if-is_empty.false) in
-    λ now u' first u h p. telling_failed g.N.Node.step first now u u' h _ was.buffers was.replies was.made was.most _ p some c.in-Failed.ensures
+    λ now u' first u h p. telling_failed g.N.Node.step first now u u' h _ _ was.buffers was.replies was.made was.most p some c.in-Failed.ensures

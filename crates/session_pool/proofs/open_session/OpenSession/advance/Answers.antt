@@ -8,11 +8,11 @@ invariant_of-self g c =
     let open_session = c.self.inside in
     let old : OpenSessionView g.row.R.Denot g.row.W.Denot = record { node = open_session.node; session = open_session.session; reader = open_session.reader; writer = open_session.writer; origin = open_session.origin } in
     let new : OpenSessionView g.row.R.Denot g.row.W.Denot = record { node = c.step.new.node; session = c.step.new.self; reader = c.step.new.reader; writer = c.step.new.writer; origin = open_session.origin } in
-    stays_open g.R.Read.remaining g.W.Write.contents old new c.self.invariant refl c.step.ensures.goes c.step.ensures.fits c.step.ensures.most
+    stays_open g.R.Source.source g.W.Target.target old new c.self.invariant refl c.step.ensures.goes c.step.ensures.fits c.step.ensures.most
 
 pub returns-clause-stays : goal.returns-clause-stays
 returns-clause-stays g c = λ shared session h.
     let open_session = c.self.inside in
     let old : OpenSessionView g.row.R.Denot g.row.W.Denot = record { node = open_session.node; session = open_session.session; reader = open_session.reader; writer = open_session.writer; origin = open_session.origin } in
     let new : OpenSessionView g.row.R.Denot g.row.W.Denot = record { node = c.step.new.node; session = c.step.new.self; reader = c.step.new.reader; writer = c.step.new.writer; origin = open_session.origin } in
-    stays_over g.R.Read.remaining g.W.Write.contents old new c.self.invariant refl c.step.ensures.goes shared session (subst (StaysOver shared session) (sym c.self.view_is) h)
+    stays_over g.R.Source.source g.W.Target.target old new c.self.invariant refl c.step.ensures.goes shared session (subst (StaysOver shared session) (sym c.self.view_is) h)

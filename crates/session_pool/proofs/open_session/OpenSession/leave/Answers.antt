@@ -16,7 +16,7 @@ invariant_of-session g c =
     let passes = subst (λ (p : Sights). ArePassesOf open_session.node.over p) parts.ensures.passes parts.ensures.gates in
     let session : PausedSessionView g.row.R.Denot g.row.W.Denot = record { origin = open_session.origin; rest = parts.result.rest; over = gates_in c.over-over.result; session = open_session.session; reader = open_session.reader; writer = open_session.writer } in (
       parts.ensures.passes ∙ sym (ap (λ (n : NodeOverGates). n.passes) parts.ensures.rest),
-      under_way g.R.Read.remaining g.W.Write.contents view c.self.invariant passes parts.ensures.later session (λ i. record {
+      under_way g.R.Source.source g.W.Target.target view c.self.invariant passes parts.ensures.later session (λ i. record {
         origin = open_session.origin;
         rest = parts.ensures.rest i;
         over = c.over-over.ensures i;
@@ -43,4 +43,4 @@ returns-clause-left g c = λ shared session stays.
     } in
     let counts = λ (whole : full ≡ false). subst (λ (s : OpenSessionView g.row.R.Denot g.row.W.Denot). both s.node.before counted ≡ s.node.stands.count.counted) c.self.view_is (ap (λ (count : Count). count.counted) parts.ensures.count) in
     let room = λ (whole : full ≡ false). subst (λ (s : OpenSessionView g.row.R.Denot g.row.W.Denot). s.node.stands.count.book_full ≡ false) c.self.view_is (sym (ap (λ (count : Count). count.book_full) parts.ensures.count) ∙ whole) in
-    leaves g.R.Read.remaining g.W.Write.contents shared session c.args.self stays counted full counts room now (here ∙ ap (as_left g.R.Read.remaining g.W.Write.contents) c.self.view_is) c.settle.result c.settle.ensures
+    leaves g.R.Source.source g.W.Target.target shared session c.args.self stays counted full counts room now (here ∙ ap (as_left g.R.Source.source g.W.Target.target) c.self.view_is) c.settle.result c.settle.ensures

@@ -35,4 +35,4 @@ invariant_of-result g c =
     } in
     let node = c.resumed in
     let is : node.result ≡ standing shared session.rest.count.counted session.rest = λ i. record { stands = node.ensures.stands i; over = node.ensures.over i; before = node.ensures.before i } in
-    goes_on g.R.Read.remaining g.W.Write.contents session c.self.invariant.1 shared later node.result is
+    goes_on g.R.Source.source g.W.Target.target session c.self.invariant.1 shared later node.result is

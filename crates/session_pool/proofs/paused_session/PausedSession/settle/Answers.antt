@@ -16,5 +16,5 @@ returns g c =
       reader = inside.reader;
       writer = inside.writer;
     } in
-    subst (λ (s : PausedSessionView g.row.R.Denot g.row.W.Denot). EndsOver g.R.Read.remaining g.W.Write.contents s.over RunStep s.origin (record { result = c.in-Some.result; reader = inside.reader; writer = inside.writer; passes = inside.passes; origin = inside.origin }) s.rest) c.self.view_is
-    (ends_over g.R.Read.remaining g.W.Write.contents session c.self.invariant.1 (record { result = c.in-Some.result; reader = inside.reader; writer = inside.writer; passes = inside.passes; origin = inside.origin }) c.in-Some.ensures.over refl refl refl (sym c.self.invariant.0))
+    subst (λ (s : PausedSessionView g.row.R.Denot g.row.W.Denot). EndsOver g.R.Source.source g.W.Target.target s.over RunStep s.origin (record { result = c.in-Some.result; reader = inside.reader; writer = inside.writer; passes = inside.passes; origin = inside.origin }) s.rest) c.self.view_is
+    (ends_over g.R.Source.source g.W.Target.target session c.self.invariant.1 (record { result = c.in-Some.result; reader = inside.reader; writer = inside.writer; passes = inside.passes; origin = inside.origin }) c.in-Some.ensures.over refl refl refl (sym c.self.invariant.0))

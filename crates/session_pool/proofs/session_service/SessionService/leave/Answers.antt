@@ -13,6 +13,6 @@ returns-clause-counts g c = λ session stands.
     let left = c.leave-left in
     let added = c.add-is_added in
     let one : LeftSession g.row.R.Denot g.row.W.Denot = record { left = left.result.0; book_full = not added.result } in
-    subst (λ (first : Totals). CountsInOpenSession g.Q.Pause.can_be_raised g.R.Read.remaining g.W.Write.contents shared first session added.new.self one) c.worker.view_is
-    (counts_in_open_session g.Q.Pause.can_be_raised g.R.Read.remaining g.W.Write.contents shared c.worker.inside.totals added.new.self session left.result.1 added.result left.result.0
+    subst (λ (first : Totals). CountsInOpenSession g.Q.Pause.can_be_raised g.R.Source.source g.W.Target.target shared first session added.new.self one) c.worker.view_is
+    (counts_in_open_session g.Q.Pause.can_be_raised g.R.Source.source g.W.Target.target shared c.worker.inside.totals added.new.self session left.result.1 added.result left.result.0
     (left.ensures.left shared session stands) (rests_where g.Q.Pause.can_be_raised c.args.opened.session.stage left.result.0 c.requires left.ensures.over) added.ensures.added added.ensures.same)

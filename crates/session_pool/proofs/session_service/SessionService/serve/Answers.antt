@@ -33,7 +33,7 @@ settle-requires-clause-sinks g c =
     let once = c.in-Ok-run_at.ensures.told in
     let told = c.in-Ok-run_at.told in
     let worker_setups = c.in-Ok-worker_setups_of.worker_setups.items in
-    let many = end_reporters_count g.J.Jobs.gives g.Q.Pause.can_be_raised g.R.Read.remaining g.W.Write.contents g.K.EndSink.told c.args.shared.now c.args.sessions.now c.run_at.new.jobs once.0 once.1 (map worker_of worker_setups) told.workers.items told.sinks.items told.given told.refused once.2 in
+    let many = end_reporters_count g.J.Jobs.gives g.Q.Pause.can_be_raised g.R.Source.source g.W.Target.target g.K.EndSink.told c.args.shared.now c.args.sessions.now c.run_at.new.jobs once.0 once.1 (map worker_of worker_setups) told.workers.items told.sinks.items told.given told.refused once.2 in
     let mapped = length-map worker_setups worker_of in
     let count = c.in-Ok-worker_setups_of.ensures.count in
     let room = c.in-Ok.ensures.room in
@@ -47,7 +47,7 @@ settle-requires-clause-resting g c =
     let once = c.in-Ok-run_at.ensures.told in
     let told = c.in-Ok-run_at.told in
     let worker_setups = c.in-Ok-worker_setups_of.worker_setups.items in
-    let many = end_reporters_count g.J.Jobs.gives g.Q.Pause.can_be_raised g.R.Read.remaining g.W.Write.contents g.K.EndSink.told c.args.shared.now c.args.sessions.now c.run_at.new.jobs once.0 once.1 (map worker_of worker_setups) told.workers.items told.sinks.items told.given told.refused once.2 in
+    let many = end_reporters_count g.J.Jobs.gives g.Q.Pause.can_be_raised g.R.Source.source g.W.Target.target g.K.EndSink.told c.args.shared.now c.args.sessions.now c.run_at.new.jobs once.0 once.1 (map worker_of worker_setups) told.workers.items told.sinks.items told.given told.refused once.2 in
     let mapped = length-map worker_setups worker_of in
     let count = c.in-Ok-worker_setups_of.ensures.count in
     let room = c.in-Ok.ensures.room in
@@ -62,7 +62,7 @@ returns-in-Ok-run_at-clause-served g c =
     let told = c.in-Ok-run_at.told in
     let worker_setups = c.in-Ok-worker_setups_of.worker_setups.items in
     let zero = every_map worker_of (λ (t : Totals). t ≡ zeros) worker_setups c.in-Ok-worker_setups_of.ensures.zeros in
-    IfOk-weaker c.settle.result _ _ (λ served left. tells_source g.J.Jobs.gives g.Q.Pause.can_be_raised g.R.Read.remaining g.W.Write.contents g.K.EndSink.told c.args.shared.now c.args.sessions.now c.run_at.new.jobs
+    IfOk-weaker c.settle.result _ _ (λ served left. tells_source g.J.Jobs.gives g.Q.Pause.can_be_raised g.R.Source.source g.W.Target.target g.K.EndSink.told c.args.shared.now c.args.sessions.now c.run_at.new.jobs
     once.0 once.1 (map worker_of worker_setups) told.workers.items told.sinks.items told.given told.refused once.2 c.args.seen.now c.settle.new.seen c.settle.ensures.more zero served
     (subst (λ (gates : Gates). Settles g.K.EndSink.told gates told.workers.items told.sinks.items told.given told.refused c.settle.new.seen served) (sym c.requires.of_run) left)) c.settle.ensures.served
 
@@ -72,7 +72,7 @@ returns-in-Ok-run_at-clause-sinks g c =
     let told = c.in-Ok-run_at.told in
     let worker_setups = c.in-Ok-worker_setups_of.worker_setups.items in
     IfOk-weaker c.settle.result _ _ (λ served left. ap length left.sinks ∙ length-map told.sinks.items sink_of
-    ∙ end_reporters_count g.J.Jobs.gives g.Q.Pause.can_be_raised g.R.Read.remaining g.W.Write.contents g.K.EndSink.told c.args.shared.now c.args.sessions.now c.run_at.new.jobs once.0 once.1 (map worker_of worker_setups) told.workers.items told.sinks.items told.given told.refused once.2
+    ∙ end_reporters_count g.J.Jobs.gives g.Q.Pause.can_be_raised g.R.Source.source g.W.Target.target g.K.EndSink.told c.args.shared.now c.args.sessions.now c.run_at.new.jobs once.0 once.1 (map worker_of worker_setups) told.workers.items told.sinks.items told.given told.refused once.2
     ∙ length-map worker_setups worker_of ∙ c.in-Ok-worker_setups_of.ensures.count) c.settle.ensures.served
 
 pub returns-in-Ok-run_at-clause-fault : goal.returns-in-Ok-run_at-clause-fault
@@ -81,11 +81,11 @@ returns-in-Ok-run_at-clause-fault g c =
     let told = c.in-Ok-run_at.told in
     let worker_setups = c.in-Ok-worker_setups_of.worker_setups.items in
     let zero = every_map worker_of (λ (t : Totals). t ≡ zeros) worker_setups c.in-Ok-worker_setups_of.ensures.zeros in
-    IfErr-weaker c.settle.result _ _ (λ fault is. leaves_told g.J.Jobs.gives g.Q.Pause.can_be_raised g.R.Read.remaining g.W.Write.contents g.K.EndSink.told c.args.shared.now c.args.sessions.now c.run_at.new.jobs
+    IfErr-weaker c.settle.result _ _ (λ fault is. leaves_told g.J.Jobs.gives g.Q.Pause.can_be_raised g.R.Source.source g.W.Target.target g.K.EndSink.told c.args.shared.now c.args.sessions.now c.run_at.new.jobs
     once.0 once.1 (map worker_of worker_setups) told.workers.items told.sinks.items told.given told.refused once.2 zero c.settle.new.seen fault
     (subst (λ (gates : Gates). IsFaultAfterTold g.K.EndSink.told gates told.workers.items told.sinks.items c.settle.new.seen fault) (sym c.requires.of_run) is)) c.settle.ensures.fault
 
 pub returns-in-Err-clause-fault : goal.returns-in-Err-clause-fault
 returns-in-Err-clause-fault g c =
-    let left = leaves_by g.J.Jobs.gives g.Q.Pause.can_be_raised g.R.Read.remaining g.W.Write.contents g.K.EndSink.told c.args.shared.now c.args.sessions.now c.run_at.new.jobs c.in-Err.fault c.in-Err.ensures.fault in
-    subst (λ (fault : PoolFault). LeavesTold g.J.Jobs.gives g.Q.Pause.can_be_raised g.R.Read.remaining g.W.Write.contents c.args.shared.now fault c.args.sessions.now c.run_at.new.jobs) (sym c.pool_fault.ensures) left
+    let left = leaves_by g.J.Jobs.gives g.Q.Pause.can_be_raised g.R.Source.source g.W.Target.target g.K.EndSink.told c.args.shared.now c.args.sessions.now c.run_at.new.jobs c.in-Err.fault c.in-Err.ensures.fault in
+    subst (λ (fault : PoolFault). LeavesTold g.J.Jobs.gives g.Q.Pause.can_be_raised g.R.Source.source g.W.Target.target c.args.shared.now fault c.args.sessions.now c.run_at.new.jobs) (sym c.pool_fault.ensures) left

@@ -12,10 +12,10 @@ new-session-requires g c = subst (λ (gates : Gates). ArePassesOf gates c.args.j
 pub go_on-requires : goal.go_on-requires
 go_on-requires g c =
     let shared = c.args.self.now.session_service in
-    let is = c.new-session.ensures ∙ ap (λ (gates : Gates). session_of g.I.Read.remaining g.O.Write.contents gates c.args.job) c.shared.ensures.shared in
+    let is = c.new-session.ensures ∙ ap (λ (gates : Gates). session_of g.I.Source.source g.O.Target.target gates c.args.job) c.shared.ensures.shared in
     subst (λ (session : PausedSessionView g.row.I.Denot g.row.O.Denot). CanGoOn shared session) (sym is) (record { later = later_same shared; room = refl })
 
 pub returns-clause-opened : goal.returns-clause-opened
 returns-clause-opened g c =
-    let is = c.new-session.ensures ∙ ap (λ (gates : Gates). session_of g.I.Read.remaining g.O.Write.contents gates c.args.job) c.shared.ensures.shared in
+    let is = c.new-session.ensures ∙ ap (λ (gates : Gates). session_of g.I.Source.source g.O.Target.target gates c.args.job) c.shared.ensures.shared in
     subst (λ (session : PausedSessionView g.row.I.Denot g.row.O.Denot). StaysOver c.args.self.now.session_service session c.go_on.result) is c.go_on.ensures
