@@ -1,5 +1,5 @@
 -- The sessions of a source of which none rested: one for each connection.
-use Rattle.std.proofs.Common.{◌≡◌, ◌∙◌, ◌+◌, None, List, [], ◌∷◌, ◌++◌, length, map, ap, sym, subst, arith}
+use Rattle.std.proofs.Common.{◌≡◌, ◌∙◌, ◌+◌, List, [], ◌∷◌, ◌++◌, length, map, ap, sym, subst, arith}
 use Rattle.std.proofs.lemmas.List.{length-map}
 use Rattle.std.proofs.lemmas.List.Elements.{All-cons, All-head, All-nil}
 use Rattle.std.specs.List.{AllZip}
@@ -10,9 +10,9 @@ use Rattle.gate_node.specs.OneHistory.{IsSeen}
 use Rattle.gate_node.specs.Passes.{Sights, ArePassesOf, AreUnused}
 use Rattle.gate_node.specs.Tallies.{GateHistory}
 use Rattle.gate_node.proofs.Histories.{each_seen}
-use Rattle.session_pool.specs.PausedSessions.{PausedSessionView, CanGoOn}
-use Rattle.session_pool.specs.Telling.{ToldSession, IsToldSession, TellsAll, TellsSource}
-use Rattle.session_pool.proofs.Legal.{told_at}
+use Rattle.worker_pool.specs.PausedSessions.{PausedSessionView, CanGoOn}
+use Rattle.worker_pool.specs.Telling.{ToldSession, IsToldSession, TellsAll, TellsSource}
+use Rattle.worker_pool.proofs.Legal.{told_at}
 use Rattle.worker_pool.specs.declared.job.Job.{Job}
 use Rattle.socket_streams.specs.declared.halves.RequestHalf.{RequestHalf}
 use Rattle.socket_streams.specs.declared.halves.ReplyHalf.{ReplyHalf}

@@ -2,7 +2,7 @@
 use Rattle.std.proofs.Common.{◌≡◌, ◌∙◌, ℕ, true, Some, List, [], ◌∷◌, ◌++◌, map, ap, sym, subst, zero, suc}
 use Rattle.std.proofs.lemmas.List.Elements.{All-cons, All-head, All-nil}
 use Rattle.std.specs.List.{AllZip}
-use Rattle.std.specs.Prelude.{Bool, Option, None, slice_get, slice_set}
+use Rattle.std.specs.Prelude.{Bool, Option, slice_get, slice_set}
 use mathlib.Core.Logic.{inl, inr}
 use Rattle.job_pool.specs.Lists.{Every}
 use Rattle.gate_node.specs.Gates.{Gates, HandoffView, AreNone, AreOfNewRun, handoff_of}
@@ -12,9 +12,9 @@ use Rattle.gate_node.specs.Passes.{Sights, ArePassesOf}
 use Rattle.gate_node.specs.Tallies.{GateHistory, Tally}
 use Rattle.gate_node.proofs.Histories.{each_seen}
 use Rattle.gate_node.proofs.Plain.{tallies_plain}
-use Rattle.session_pool.specs.PausedSessions.{PausedSessionView}
-use Rattle.session_pool.specs.Telling.{IsToldSession}
-use Rattle.session_pool.proofs.EndReporters.{seen_less, seen_same, seen_through}
+use Rattle.worker_pool.specs.PausedSessions.{PausedSessionView}
+use Rattle.worker_pool.specs.Telling.{IsToldSession}
+use Rattle.worker_pool.proofs.EndReporters.{seen_less, seen_same, seen_through}
 use Rattle.socket_streams.specs.declared.halves.RequestHalf.{RequestHalf}
 use Rattle.socket_streams.specs.declared.halves.ReplyHalf.{ReplyHalf}
 use Rattle.socket_streams.specs.Sessions.{begun_by, in_turn}

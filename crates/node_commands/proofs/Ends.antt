@@ -1,13 +1,13 @@
 -- Where no session rests, and how many are over that a server had which is paused and goes on.
-use Rattle.std.proofs.Common.{◌≡◌, ◌∙◌, ◌↔◌, ℕ, ◌+◌, IsTrue, true, List, [], ◌∷◌, ◌++◌, Vec, Global, length, map, nat_eq, ap, arith, refl, sym}
+use Rattle.std.proofs.Common.{◌≡◌, ◌∙◌, ◌↔◌, ℕ, ◌+◌, IsTrue, true, List, [], ◌∷◌, Vec, Global, length, map, nat_eq, ap, arith, refl, sym}
 use Rattle.std.proofs.lemmas.List.{length-append, length-map, length-reverse}
 use Rattle.std.proofs.lemmas.List.Folds.{list_all-map}
 use Rattle.std.specs.List.{list_all}
 use mathlib.Core.Logic.{inl, inr}
 use Rattle.job_pool.specs.Lists.{concat}
 use Rattle.gate_node.specs.Gates.{Gates}
-use Rattle.session_pool.specs.PausedSessions.{PausedSessionView}
-use Rattle.session_pool.specs.Telling.{now_of}
+use Rattle.worker_pool.specs.PausedSessions.{PausedSessionView}
+use Rattle.worker_pool.specs.Telling.{now_of}
 use Rattle.socket_streams.specs.declared.halves.RequestHalf.{RequestHalf}
 use Rattle.socket_streams.specs.declared.halves.ReplyHalf.{ReplyHalf}
 use Rattle.socket_streams.specs.Sessions.{begun_by, in_turn}

@@ -1,5 +1,5 @@
 -- The sessions of a run over partitions that were never diverted are by the register's steps, where the tallies count all of the histories.
-use Rattle.std.proofs.Common.{◌≡◌, ℕ, None, List, [], ◌∷◌, map, sym, subst}
+use Rattle.std.proofs.Common.{◌≡◌, ℕ, List, [], ◌∷◌, map, sym, subst}
 use Rattle.std.proofs.lemmas.List.Elements.{All-cons, All-nil}
 use Rattle.std.specs.List.{AllZip}
 use Rattle.std.specs.Prelude.{Bool, true}
@@ -11,10 +11,10 @@ use Rattle.gate_node.specs.OneHistory.{AreOfGates, HaveSeen, IsSeen, ShareHistor
 use Rattle.gate_node.specs.Passes.{Sights, ArePassesOf}
 use Rattle.gate_node.specs.Tallies.{GateHistory, Tally, IsTally, CountsAll}
 use Rattle.gate_node.proofs.Plain.{tallies_plain}
-use Rattle.session_pool.specs.PausedSessions.{PausedSessionView}
-use Rattle.session_pool.specs.Telling.{ToldSession, IsToldSession}
-use Rattle.session_pool.proofs.EndReporters.{seen_through}
-use Rattle.session_pool.proofs.Legal.{told_is_legal}
+use Rattle.worker_pool.specs.PausedSessions.{PausedSessionView}
+use Rattle.worker_pool.specs.Telling.{ToldSession, IsToldSession}
+use Rattle.worker_pool.proofs.EndReporters.{seen_through}
+use Rattle.worker_pool.proofs.Legal.{told_is_legal}
 use Rattle.worker_pool.specs.declared.closed.Closed.{Closed}
 use Rattle.worker_pool.proofs.LegalRuns.{ends_legally}
 use Rattle.socket_streams.specs.declared.halves.RequestHalf.{RequestHalf}

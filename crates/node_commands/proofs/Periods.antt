@@ -6,11 +6,11 @@ use mathlib.Core.Logic.{inl, inr}
 use Rattle.job_pool.specs.Lists.{Every, concat}
 use Rattle.gate_node.specs.Gates.{Gates}
 use Rattle.gate_node.specs.Passes.{Sights, ArePassesOf}
-use Rattle.session_pool.specs.declared.served_sessions.ServedSessions.{ServedSessions}
-use Rattle.session_pool.specs.Resuming.{IsLater, IsOnceDiverted}
-use Rattle.session_pool.specs.PausedSessions.{CanGoOn, PausedSessionView}
-use Rattle.session_pool.specs.Telling.{RestedSession, IsRestedSession, TellsAll, TellsSource, now_of}
-use Rattle.session_pool.proofs.Resuming.{later_on, later_to, passes_later}
+use Rattle.worker_pool.specs.declared.served_sessions.ServedSessions.{ServedSessions}
+use Rattle.worker_pool.specs.Resuming.{IsLater, IsOnceDiverted}
+use Rattle.worker_pool.specs.PausedSessions.{CanGoOn, PausedSessionView}
+use Rattle.worker_pool.specs.Telling.{RestedSession, IsRestedSession, TellsAll, TellsSource, now_of}
+use Rattle.worker_pool.proofs.Resuming.{later_on, later_to, passes_later}
 use Rattle.socket_streams.specs.declared.halves.RequestHalf.{RequestHalf}
 use Rattle.socket_streams.specs.declared.halves.ReplyHalf.{ReplyHalf}
 use Rattle.socket_streams.specs.Arriving.{ArrivalsView}

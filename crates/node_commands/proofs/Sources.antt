@@ -2,10 +2,9 @@
 use Rattle.std.proofs.Common.{◌≡◌, ◌∙◌, ℕ, ◌+◌, ◌≤◌, false, None, Some, List, [], ◌∷◌, length, ap, sym, subst, arith}
 use Rattle.std.specs.Prelude.{IfSome, Option}
 use Rattle.job_pool.specs.Giving.{Gave, GaveAll, GivesOnly}
-use Rattle.job_pool.specs.Lists.{Every}
 use Rattle.gate_node.specs.Gates.{Gates}
 use Rattle.worker_pool.specs.declared.job.Job.{Job}
-use Rattle.worker_pool.specs.Serving.{IsForGates}
+use Rattle.worker_pool.specs.JobEnds.{IsForGates}
 use Rattle.socket_streams.specs.declared.halves.RequestHalf.{RequestHalf}
 use Rattle.socket_streams.specs.declared.halves.ReplyHalf.{ReplyHalf}
 use Rattle.socket_streams.specs.Arriving.{ArrivalsView, IsSameSource, AreNewConnections, GivesConnection}

@@ -14,7 +14,7 @@ use Rattle.control_text.specs.declared.refusal.OperatorRefusal.TheVariants.{NoPa
 use Rattle.gate_node.specs.Gates.{Gates, handoff_of}
 use Rattle.key_counts.specs.declared.counts.KeyCounts.{KeyCounts}
 use Rattle.key_counts.specs.Partitions.{IsCountOfAll}
-use Rattle.session_pool.specs.Resuming.{IsOnceDiverted}
+use Rattle.worker_pool.specs.Resuming.{IsOnceDiverted}
 use Rattle.node_commands.specs.declared.progress.Paused.{Paused}
 
 -- why a command that names this partition wasn't done

@@ -9,10 +9,10 @@ use Rattle.gate_node.specs.Passes.{Sights, ArePassesOf, AreUnused}
 use Rattle.gate_node.specs.Plain.{AreLegal}
 use Rattle.gate_node.specs.Tallies.{GateHistory}
 use Rattle.worker_pool.specs.declared.job.Job.{Job}
-use Rattle.session_pool.specs.declared.served_sessions.ServedSessions.{ServedSessions}
-use Rattle.session_pool.specs.Resuming.{IsOnceDiverted}
-use Rattle.session_pool.specs.PausedSessions.{CanGoOn, PausedSessionView}
-use Rattle.session_pool.specs.Telling.{ToldSession, TellsAll}
+use Rattle.worker_pool.specs.declared.served_sessions.ServedSessions.{ServedSessions}
+use Rattle.worker_pool.specs.Resuming.{IsOnceDiverted}
+use Rattle.worker_pool.specs.PausedSessions.{CanGoOn, PausedSessionView}
+use Rattle.worker_pool.specs.Telling.{ToldSession, TellsAll}
 use Rattle.socket_streams.specs.declared.halves.RequestHalf.{RequestHalf}
 use Rattle.socket_streams.specs.declared.halves.ReplyHalf.{ReplyHalf}
 use Rattle.socket_streams.specs.Arriving.{AreNewConnections}

@@ -13,12 +13,12 @@ use Rattle.worker_pool.specs.declared.closed.Closed.{Closed}
 use Rattle.worker_pool.specs.declared.job.End.{End}
 use Rattle.worker_pool.specs.declared.job.Job.{Job}
 use Rattle.worker_pool.specs.Run.{ServesAll}
-use Rattle.worker_pool.specs.Serving.{EndsWell}
-use Rattle.session_pool.specs.declared.end_sink.SessionEnd.{SessionEnd}
-use Rattle.session_pool.specs.declared.served_sessions.ServedSessions.{ServedSessions}
-use Rattle.session_pool.specs.Leaving.{IsEndOf}
-use Rattle.session_pool.specs.Resuming.{RunStepIn}
-use Rattle.session_pool.specs.Telling.{ToldSession, TellsAll, with_passes}
+use Rattle.worker_pool.specs.JobEnds.{EndsWell}
+use Rattle.worker_pool.specs.declared.end_sink.SessionEnd.{SessionEnd}
+use Rattle.worker_pool.specs.declared.served_sessions.ServedSessions.{ServedSessions}
+use Rattle.worker_pool.specs.Leaving.{IsEndOf}
+use Rattle.worker_pool.specs.Resuming.{RunStepIn}
+use Rattle.worker_pool.specs.Telling.{ToldSession, TellsAll, with_passes}
 use Rattle.socket_streams.specs.declared.halves.RequestHalf.{RequestHalf}
 use Rattle.socket_streams.specs.declared.halves.ReplyHalf.{ReplyHalf}
 use Rattle.socket_streams.specs.Sending.{target_of_replies}

@@ -32,12 +32,12 @@
 //!
 //! What `pipe` wrote is a session over the sibling register for what was read, for every ring, run
 //! and sweep budget. `serve_on` serves each of its connections once, to its end, over the gates of
-//! a new run. `serve_on_until` serves as `serve` of `session_pool` does. Both serve sockets. Where
+//! a new run. `serve_on_until` serves as `serve` of `worker_pool` does. Both serve sockets. Where
 //! the tallies count all of the vnodes' histories (`count_all`), these are legal for the sibling
 //! register, and each session is by steps of the register among others, in them.
 //!
 //! `serve_controlled` is a path of periods and of diversions (`IsControlled`). In each period the
-//! workers serve as `serve` of `session_pool` says; partitions are diverted while the workers are
+//! workers serve as `serve` of `worker_pool` says; partitions are diverted while the workers are
 //! paused. In the end no session rests: as many ended, were refused or were closed as connections
 //! were accepted. What is known of the partitions' diversions in the end holds (`tracks` of
 //! `IsControlled`; `handoff_tracks`). Where no partition was ever diverted, the replies of all

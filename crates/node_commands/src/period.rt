@@ -15,7 +15,6 @@ use crate::serving::serve_fault;
 use gate_node::{Open, Passes, Shared};
 use handoff_tracks::HandoffTracks;
 use log::Log;
-use session_pool::{ServedSessions, serve};
 use socket_streams::{
     Arrivals, Limits, LogSink, ReplyHalf, RequestHalf, RunSignals, RunWaits, Sessions,
     new_run_waits, new_serving_setups,
@@ -30,6 +29,7 @@ use std::sync::Wait;
 use std::sync::atomic::{AtomicBool, Ordering};
 use std::thread;
 use std::thread::Threads;
+use worker_pool::{ServedSessions, serve};
 
 /// How many connections may still be accepted.
 fn left_of(limit: Option<u64>, accepted: u64) -> Option<u64>

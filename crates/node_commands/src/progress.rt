@@ -4,7 +4,7 @@ ghost use Rattle.std.specs.Prelude.{◌≡◌, ◌<◌, ◌^◌, ◌↔◌, leng
 ghost use Rattle.std.specs.List.{list_all};
 ghost use Rattle.handoff.specs.Partitions.{IsDivertRefused};
 ghost use Rattle.gate_node.specs.Gates.{handoff_of};
-ghost use Rattle.session_pool.specs.Resuming.{IsOnceDiverted};
+ghost use Rattle.worker_pool.specs.Resuming.{IsOnceDiverted};
 ghost use Rattle.node_commands.specs.Periods.{IsNew, NoneRests};
 
 use gate_node::{Passes, Shared};

@@ -1,11 +1,11 @@
 //! What a server has done by now, in numbers for an operator.
 
 use control_text::{Figure, write_figures, write_group};
-use session_pool::{MessageKind, Text};
 use socket_streams::{ServerCounts, Work, WorkerCounts};
 use stats_book::Totals;
 use std::io;
 use std::io::Write;
+use worker_pool::{MessageKind, Text};
 
 /// The errors, each by the name of its number: its text, with `_` in place of a space.
 const ERRORS: [(Text, &str); 18] = [

@@ -12,7 +12,6 @@ use crate::options::ServerSettings;
 use crate::serving::serve_fault;
 use gate_node::{Open, Passes, RunTallies, Shared, tallies_of};
 use log::Log;
-use session_pool::{NoPause, ServedSessions, serve};
 use socket_streams::{
     Arrivals, Limits, LogSink, ReplyHalf, RequestHalf, RunSignals, RunWaits, ServerCounts,
     Sessions, new_run_waits, new_serving_setups,
@@ -24,6 +23,7 @@ use std::rt::Clock;
 use std::sync::Wait;
 use std::thread::{Scope, Threads};
 use std::{slice, thread};
+use worker_pool::{NoPause, ServedSessions, serve};
 
 /// What came of a server for as many clients as come.
 #[derive(Drop)]

@@ -4,8 +4,8 @@ use Rattle.std.specs.Prelude.{Option, Some, None, Result, Ok, Err}
 use Rattle.job_pool.specs.Giving.{Gave, GaveAll, GivesOnly}
 use Rattle.job_pool.specs.Lists.{Every, concat}
 use Rattle.job_pool.specs.declared.jobs.JobFault.{JobFault}
-use Rattle.worker_pool.specs.Serving.{Gates}
-use Rattle.session_pool.specs.PausedSessions.{PausedSessionView, CanGoOn}
+use Rattle.worker_pool.specs.JobEnds.{Gates}
+use Rattle.worker_pool.specs.PausedSessions.{PausedSessionView, CanGoOn}
 use Rattle.worker_pool.specs.declared.job.Job.{Job}
 use Rattle.socket_streams.specs.declared.halves.RequestHalf.{RequestHalf}
 use Rattle.socket_streams.specs.declared.halves.ReplyHalf.{ReplyHalf}

@@ -2,7 +2,7 @@
 use Rattle.std.specs.Prelude.{◌≡◌, ◌+◌, ℕ, Bool, false, List, [], ◌∷◌, Option, Some, None, Result, Ok, Err}
 use Rattle.job_pool.specs.declared.jobs.JobFault.{JobFault}
 use Rattle.worker_pool.specs.declared.job.Job.{Job}
-use Rattle.worker_pool.specs.Serving.{Gates, AreUnused, IsForGates}
+use Rattle.worker_pool.specs.JobEnds.{Gates, AreUnused, IsForGates}
 use Rattle.socket_streams.specs.declared.halves.RequestHalf.{RequestHalf}
 use Rattle.socket_streams.specs.declared.halves.ReplyHalf.{ReplyHalf}
 

@@ -2,8 +2,8 @@
 use Rattle.std.specs.Prelude.{◌≡◌, List, [], ◌∷◌, Option, Some, None, Result, Ok, Err, reverse}
 use Rattle.job_pool.specs.Lists.{concat}
 use Rattle.job_pool.specs.declared.jobs.JobFault.{JobFault}
-use Rattle.worker_pool.specs.Serving.{Gates}
-use Rattle.session_pool.specs.PausedSessions.{PausedSessionView, begun}
+use Rattle.worker_pool.specs.JobEnds.{Gates}
+use Rattle.worker_pool.specs.PausedSessions.{PausedSessionView, begun}
 use Rattle.worker_pool.specs.declared.job.Job.{Job}
 use Rattle.socket_streams.specs.declared.halves.RequestHalf.{RequestHalf}
 use Rattle.socket_streams.specs.declared.halves.ReplyHalf.{ReplyHalf}

@@ -1,7 +1,7 @@
 //! The connections of a listener as a source of jobs.
 ghost use Rattle.std.specs.Prelude.{◌≡◌, ◌+◌, ◌<◌, ◌≤◌, ◌^◌};
 ghost use Rattle.std.specs.Prelude.{Some, true, false, IfSome, IfNone, IfOk};
-ghost use Rattle.worker_pool.specs.Serving.{ArePassesOf, AreUnused};
+ghost use Rattle.worker_pool.specs.JobEnds.{ArePassesOf, AreUnused};
 ghost use Rattle.socket_streams.specs.Arriving.{ArrivalsView, IsSameSource, IsNewConnection};
 
 use crate::accept_fault::AcceptFault;
@@ -195,14 +195,15 @@ impl<'a, X, L: OpenListener<Stream = TcpStream> + AsRawFd> Arrivals<'a, X, L> {
     }
 
     /// The socket of a stream: once more where memory was refused and some was given up.
-    fn new_socket(&mut self, stream: TcpStream) -> Option<Socket>
-        ensures { self.new ≡ self.old }
+    fn new_socket(&mut self, stream: TcpStream, number: u64) -> Option<Socket>
+        ensures same { self.new ≡ self.old }
+        ensures of { IfSome result (λ socket. socket.value.number ≡ Some number) }
     {
-        match new_socket(self.alloc, stream) {
+        match new_socket(self.alloc, stream, number) {
             Ok(socket) => Some(socket),
             Err(stream) => {
                 if self.spare.give_up() {
-                    new_socket(self.alloc, stream).ok()
+                    new_socket(self.alloc, stream, number).ok()
                 } else {
                     None
                 }
@@ -222,7 +223,7 @@ impl<'a, X, L: OpenListener<Stream = TcpStream> + AsRawFd> Arrivals<'a, X, L> {
     {
         let number = self.limits.before + self.given;
         let passes = self.new_passes()?;
-        let socket = self.new_socket(stream)?;
+        let socket = self.new_socket(stream, number)?;
         match new_halves(self.alloc, socket, peer, number) {
             Ok((reader, writer)) => Some(Job {
                 reader,

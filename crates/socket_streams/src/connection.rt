@@ -1,5 +1,8 @@
 //! The socket of a connection, and what its worker was told of it.
 
+ghost use Rattle.std.specs.Prelude.{◌≡◌, Some};
+
+use ghost_state::GhostValue;
 use std::alloc::Global;
 use std::io;
 use std::io::ErrorKind;
@@ -27,6 +30,8 @@ pub(crate) struct Connection {
     waiting: AtomicUsize,
     /// Whether one of its halves was called since its worker asked that last.
     is_called: AtomicBool,
+    /// How many connections its listener gave before, for clauses alone.
+    pub(crate) number: GhostValue<u64>,
 }
 
 /// Adds to a number that this thread alone raises.
@@ -44,8 +49,10 @@ pub(crate) fn is_of_now(error: &io::Error) -> bool {
 pub(crate) type Socket = Arc<Connection, Global>;
 
 impl Connection {
-    /// Of a stream of which nothing was reported.
-    pub(crate) fn new(stream: TcpStream) -> Connection {
+    /// Of a stream of which nothing was reported, which is the connection of this number.
+    pub(crate) fn new(stream: TcpStream, number: u64) -> Connection
+        ensures { result.number ≡ Some number }
+    {
         Connection {
             stream,
             is_drained: AtomicBool::new(false),
@@ -55,6 +62,7 @@ impl Connection {
             received: AtomicUsize::new(0),
             waiting: AtomicUsize::new(0),
             is_called: AtomicBool::new(false),
+            number: GhostValue::some(&number),
         }
     }
 
@@ -74,6 +82,7 @@ impl Connection {
             received: _,
             waiting: _,
             is_called: _,
+            number: _,
         } = self;
         stream
     }

@@ -15,12 +15,12 @@ use crate::worker_clock::WorkerClock;
 use crate::worker_signals::WorkerSignals;
 use job_pool::{StepOutcome, Turn};
 use log::Log;
-use session_pool::StreamReadiness;
 use std::alloc::Global;
 use std::rt::Clock;
 use std::sync::{Arc, Wait};
 use std::time::Duration;
 use std::{io, thread};
+use worker_pool::StreamReadiness;
 
 /// What a worker waits with whose sessions are over sockets: for these and for its wakeup, with `mio`.
 ///

@@ -1,19 +1,18 @@
 //! The two halves of a connection over a socket that needs not wait.
 
-ghost use Rattle.std.specs.Prelude.{◌≡◌, ◌≤◌, ◌++◌, ◌∷◌, [], take, drop, length};
-ghost use Rattle.std.specs.Prelude.{None, Some, IfOk, OnOk, OnErr};
-ghost use Rattle.std.specs.Io.{ReadsAtMost};
+ghost use Rattle.std.specs.Prelude.{◌≡◌, ◌≤◌, ◌++◌, [], drop, length};
+ghost use Rattle.std.specs.Prelude.{None, Some, IfOk, OnOk};
 ghost use Rattle.std.specs.Io.KnownBytes.{WriteAppends};
-ghost use Rattle.node_session.specs.Streams.{note_of};
 ghost use Rattle.socket_streams.specs.Sending.{written, waiting};
 
 use crate::connection::{Connection, Socket};
+use crate::system_calls::{note, receive, send};
 use ghost_state::{GhostList, GhostValue, Listing};
 use node_session::{ReadNote, Source, Target};
 use pb_frame::shrink_empty;
 use std::alloc::Global;
 use std::io;
-use std::io::{ErrorKind, Read, Write};
+use std::io::ErrorKind;
 use std::marker::Model;
 use std::net::{Shutdown, SocketAddr, TcpStream};
 use std::os::fd::{AsRawFd, RawFd};
@@ -41,7 +40,7 @@ pub struct RequestHalf {
 }
 
 impl Model for RequestHalf {
-    ghost use Rattle.std.specs.Prelude.{None, Some};
+    ghost use Rattle.std.specs.Prelude.{◌≡◌, None, Some, IfSome};
     ghost use Rattle.node_session.specs.Streams.{SourceView};
 
     ghost Value = { SourceView };
@@ -51,17 +50,10 @@ impl Model for RequestHalf {
       unread = None;
       heard = Some half.heard;
     } };
-}
 
-/// A list of notes, and behind it that of one read.
-struct WithNote;
-
-impl<'a> Listing<(&'a GhostList<ReadNote>, &'a [u8], &'a io::Result<usize>), ReadNote>
-    for WithNote {
-    ghost use Rattle.std.specs.Prelude.{◌++◌, ◌∷◌, []};
-    ghost use Rattle.node_session.specs.Streams.{note_of};
-
-    ghost list = { λ of. of.0.now ++ note_of of.2.now of.1.now ∷ [] };
+    // its socket is that of this connection
+    ghost invariant = { λ half. IfSome half.socket
+        (λ socket. socket.value.number ≡ half.number) };
 }
 
 /// The half to which replies are written. It gathers them, up to 8,192 bytes or until it is flushed, for one write to the socket. A write that
@@ -101,16 +93,8 @@ impl Model for ReplyHalf {
 
     ghost invariant = { λ half. (half.sent ≤ length half.gathered.items)
         × IfSome half.socket (λ _. half.lost ≡ [])
-        × IfNone half.socket (half.gathered.items ≡ []) };
-}
-
-/// A list, and behind it the first so many of these bytes.
-struct WithFirst;
-
-impl<'a> Listing<(&'a GhostList<u8>, &'a [u8], usize), u8> for WithFirst {
-    ghost use Rattle.std.specs.Prelude.{◌++◌, take};
-
-    ghost list = { λ of. of.0.now ++ take of.2 of.1.now };
+        × IfNone half.socket (half.gathered.items ≡ [])
+        × IfSome half.socket (λ socket. socket.value.number ≡ half.number) };
 }
 
 /// A list, and behind it these bytes without the first so many.
@@ -120,56 +104,6 @@ impl<'a> Listing<(&'a GhostList<u8>, &'a [u8], usize), u8> for WithRest {
     ghost use Rattle.std.specs.Prelude.{◌++◌, drop};
 
     ghost list = { λ of. of.0.now ++ drop of.2 of.1.now };
-}
-
-/// Notes what came of a read into a buffer.
-fn note(heard: &mut GhostList<ReadNote>, buf: &[u8], came: &io::Result<usize>)
-    ensures { heard.new ≡ heard.old ++ note_of came.now buf.now ∷ [] }
-{
-    let of: (&GhostList<ReadNote>, &[u8], &io::Result<usize>) = (&*heard, buf, came);
-    *heard = GhostList::listed::<(&GhostList<ReadNote>, &[u8], &io::Result<usize>), WithNote>(&of);
-}
-
-/// Has the system put bytes into a buffer, and notes what came of that.
-fn receive(socket: &Socket, heard: &mut GhostList<ReadNote>, buf: &mut [u8]) -> io::Result<usize>
-    ensures bound { ReadsAtMost result buf.new }
-    ensures heard { heard.new ≡ heard.old ++ note_of result buf.new ∷ [] }
-{
-    socket.note_call();
-    let room = buf.len();
-    let came = if socket.is_drained() {
-        Err(ErrorKind::WouldBlock.into())
-    } else {
-        let mut stream = socket.stream();
-        let came = stream.read(buf);
-        socket.note_result(&came);
-        came
-    };
-    if let Ok(taken) = &came {
-        socket.note_received(*taken);
-        socket.note_read(*taken, room);
-    }
-    note(heard, buf, &came);
-    came
-}
-
-/// Hands bytes to the system, as many as it takes at once, which are noted behind those that it took before.
-fn send(socket: &Socket, taken: &mut GhostList<u8>, bytes: &[u8]) -> io::Result<usize>
-    ensures bound { IfOk result (λ n. n ≤ length bytes.now) }
-    ensures took { IfOk result (λ n. taken.new ≡ taken.old ++ take n bytes.now) }
-    ensures kept { OnErr result (taken.new ≡ taken.old) }
-{
-    let mut stream = socket.stream();
-    let came = stream.write(bytes);
-    match &came {
-        Ok(n) => {
-            socket.note_taken(*n, bytes.len());
-            let more: (&GhostList<u8>, &[u8], usize) = (&*taken, bytes, *n);
-            *taken = GhostList::listed::<(&GhostList<u8>, &[u8], usize), WithFirst>(&more);
-        }
-        Err(_) => socket.note_result(&came),
-    }
-    came
 }
 
 /// Hands to the system what is gathered behind the first so many bytes. `WouldBlock` where it doesn't take it all now.
@@ -255,6 +189,7 @@ impl EndRead for RequestHalf {
 impl ReplyHalf {
     /// Of a socket to which nothing was written.
     fn new(alloc: Global, socket: Socket, number: u64) -> ReplyHalf
+        requires { socket.value.number ≡ Some number }
         ensures { result ≡ record { number = Some number; sent = []; held = []; lost = [] } }
     {
         ReplyHalf {
@@ -368,9 +303,11 @@ impl EndWrite for ReplyHalf {
     }
 }
 
-/// The socket of a stream; the stream, where memory is refused.
-pub(crate) fn new_socket(alloc: Global, stream: TcpStream) -> Result<Socket, TcpStream> {
-    match Arc::new(alloc, Connection::new(stream)) {
+/// The socket of a stream, which is the connection of this number; the stream, where memory is refused.
+pub(crate) fn new_socket(alloc: Global, stream: TcpStream, number: u64) -> Result<Socket, TcpStream>
+    ensures { IfOk result (λ socket. socket.value.number ≡ Some number) }
+{
+    match Arc::new(alloc, Connection::new(stream, number)) {
         Ok(socket) => Ok(socket),
         Err(failed) => Err(failed.value.into_stream()),
     }
@@ -383,6 +320,7 @@ pub(crate) fn new_halves(
     peer: SocketAddr,
     number: u64,
 ) -> io::Result<(RequestHalf, ReplyHalf)>
+    requires { socket.value.number ≡ Some number }
     ensures reader { IfOk result (λ halves.
         halves.0 ≡ record { number = Some number; unread = None; heard = Some [] }) }
     ensures writer { IfOk result (λ halves.

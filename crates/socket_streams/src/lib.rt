@@ -14,7 +14,7 @@
 //! let arrivals = Arrivals::new(&rt, alloc, &listener, waits.accepting, &shared, &stop, limits)?;
 //! // `resting` of the run before; none at first
 //! let mut sessions = Sessions::new(alloc, arrivals, rested, Some(writer));
-//! // of `session_pool`
+//! // of `worker_pool`
 //! serve(&rt, alloc, &shared, &mut sessions, serving_setups, &Open, &stop, &mut seen)
 //! // by another thread: it returns, and what is open rests
 //! stop.pause()
@@ -83,6 +83,7 @@ mod server_counts;
 mod sessions;
 mod slots;
 mod spare;
+mod system_calls;
 mod turn_bound;
 mod waiting;
 mod waits;

@@ -2,11 +2,11 @@
 
 use crate::connection::{Socket, is_of_now};
 use crate::worker_clock::WorkerClock;
-use session_pool::MAX_READ_LEN;
 use std::alloc::Global;
 use std::io::Read;
 use std::net::Shutdown;
 use std::rt::Clock;
+use worker_pool::MAX_READ_LEN;
 
 /// How long such a socket is kept at most, in milliseconds.
 const LINGER_MILLIS: u64 = 2000;

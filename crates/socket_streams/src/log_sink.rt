@@ -7,13 +7,12 @@ use crate::worker_signals::WorkerSignals;
 use ghost_state::GhostList;
 use job_pool::NumberedEnd;
 use log::{Log, info, warn};
-use session_pool::{Began, EndSink, Ended, SessionEnd, SessionFault, Shared};
 use std::alloc::{AllocError, Global};
 use std::marker::Model;
 use std::net::SocketAddr;
 use std::rt::Clock;
 use std::sync::{Arc, Wait};
-use worker_pool::{EndRead, EndWrite};
+use worker_pool::{Began, EndRead, EndSink, EndWrite, Ended, SessionEnd, SessionFault, Shared};
 
 /// The end of a connection, as a worker's sink is told it.
 type ConnectionEnd = SessionEnd<RequestHalf, ReplyHalf>;
@@ -45,7 +44,7 @@ impl<'a, X> Drop for LogSink<'a, X> {
 impl<'a, X> Model for LogSink<'a, X> {
     ghost use Rattle.std.specs.Prelude.{List};
     ghost use Rattle.job_pool.specs.declared.worker.NumberedEnd.{NumberedEnd};
-    ghost use Rattle.session_pool.specs.declared.end_sink.SessionEnd.{SessionEnd};
+    ghost use Rattle.worker_pool.specs.declared.end_sink.SessionEnd.{SessionEnd};
     ghost use Rattle.socket_streams.specs.declared.halves.RequestHalf.{RequestHalf};
     ghost use Rattle.socket_streams.specs.declared.halves.ReplyHalf.{ReplyHalf};
 

@@ -4,7 +4,6 @@ use crate::pause::{PAUSE_MILLIS, SETTLE_MICROS};
 use crate::server_counts::ServerCounts;
 use crate::worker_signals::WorkerSignals;
 use mio::Waker;
-use session_pool::Pause;
 use std::alloc::Global;
 use std::io::{ErrorKind, Read};
 use std::rt::Clock;
@@ -12,6 +11,7 @@ use std::sync::atomic::{AtomicBool, AtomicUsize, Ordering};
 use std::sync::{Arc, Wait};
 use std::thread;
 use std::time::Duration;
+use worker_pool::Pause;
 
 /// Says when all threads of a run were started, and ends it from outside, in one of two ways. Once it is raised the accepting thread accepts no more,
 /// and the workers end their connections. Once it pauses the run the accepting thread accepts no more either, and the workers lay their sessions

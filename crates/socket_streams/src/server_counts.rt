@@ -2,11 +2,11 @@
 
 use crate::refused_puts::RefusedPuts;
 use log::Log;
-use session_pool::LiveCounts;
 use std::alloc::{AllocError, Global};
 use std::rt::Clock;
 use std::sync::atomic::{AtomicU64, Ordering};
 use std::sync::{Arc, Wait};
+use worker_pool::LiveCounts;
 
 /// Raises a number that this thread alone raises.
 fn raise(number: &AtomicU64, amount: u64) {

@@ -1,13 +1,12 @@
 //! Sessions over sockets as a source: those that rest, and then one for each connection of a listener.
 ghost use Rattle.std.specs.Prelude.{◌≡◌, ◌+◌, ◌≤◌, ◌∷◌, [], map, IfSome, IfNone};
-ghost use Rattle.worker_pool.specs.Serving.{IsForGates};
+ghost use Rattle.worker_pool.specs.JobEnds.{IsForGates};
 ghost use Rattle.socket_streams.specs.Sessions.{begun_by, in_turn};
 
 use crate::arrivals::Arrivals;
 use crate::halves::{ReplyHalf, RequestHalf};
 use job_pool::{JobFault, Jobs};
 use log::Log;
-use session_pool::PausedSession;
 use std::alloc::Global;
 use std::io;
 use std::io::Write;
@@ -16,7 +15,7 @@ use std::net::{OpenListener, TcpStream};
 use std::os::fd::AsRawFd;
 use std::rt::Clock;
 use std::sync::Wait;
-use worker_pool::Job;
+use worker_pool::{Job, PausedSession};
 
 /// A session over a socket that rests, or is to begin.
 pub type SocketSession = PausedSession<RequestHalf, ReplyHalf>;

@@ -13,7 +13,6 @@ use job_pool::Post;
 use log::Log;
 use mio::unix::SourceFd;
 use mio::{Events, Interest, Poll, Token, Waker};
-use session_pool::ServingSetup;
 use std::alloc::Global;
 use std::io;
 use std::net::{Net, OpenListener};
@@ -21,7 +20,7 @@ use std::os::fd::AsRawFd;
 use std::rt::Clock;
 use std::sync::atomic::AtomicUsize;
 use std::sync::{Arc, Wait};
-use worker_pool::ShownStreams;
+use worker_pool::{ServingSetup, ShownStreams};
 
 /// The token of the listener.
 const LISTENER: usize = 0;

@@ -10,14 +10,14 @@ use Rattle.stats_book.specs.Counting.{both}
 use Rattle.stats_book.specs.declared.totals.Totals.{Totals}
 use Rattle.gate_node.specs.Gates.{Gates}
 use Rattle.gate_node.specs.GateStep.{NodeOverGates, GateNodeStep}
-use Rattle.session_pool.specs.declared.left.EndedSession.{EndedSession}
-use Rattle.session_pool.specs.declared.left.Left.TheVariants as lefts
-use Rattle.session_pool.specs.Serving.{CountsInOpenSession}
-use Rattle.session_pool.specs.PausedSessions.{first_node}
-use Rattle.session_pool.proofs.Gathering.{none_both}
+use Rattle.worker_pool.specs.declared.left.EndedSession.{EndedSession}
+use Rattle.worker_pool.specs.declared.left.Left.TheVariants as lefts
+use Rattle.worker_pool.specs.Serving.{CountsInOpenSession}
+use Rattle.worker_pool.specs.PausedSessions.{first_node}
+use Rattle.worker_pool.proofs.Gathering.{none_both}
 use Rattle.worker_pool.specs.declared.job.Job.{Job}
 use Rattle.worker_pool.specs.declared.job.End.{End}
-use Rattle.worker_pool.specs.Serving.{CountsInSession, EndsAtEnd, EndsAtFault, session_of}
+use Rattle.worker_pool.specs.JobEnds.{CountsInSession, EndsAtEnd, EndsAtFault, session_of}
 use Rattle.worker_pool.proofs.Staying.{over_same}
 
 module _ {I O : Type 0} (source : I → SourceView) (target : O → TargetView) (shared : Gates) where

@@ -5,8 +5,8 @@ use Rattle.job_pool.specs.Lists.{Pairwise}
 use Rattle.worker_pool.specs.declared.job.Job.{Job}
 use Rattle.worker_pool.specs.declared.job.End.{End}
 use Rattle.worker_pool.specs.declared.server.ServedJob.{ServedJob}
-use Rattle.worker_pool.specs.Serving.{counted_whole}
-use Rattle.worker_pool.specs.Leaving.{MetFullBook}
+use Rattle.worker_pool.specs.JobEnds.{counted_whole}
+use Rattle.worker_pool.specs.JobFaults.{MetFullBook}
 pub use Rattle.std.proofs.lemmas.List.{length-replicate as replicate_length}
 
 module _ {I O : Type 0} where

@@ -10,9 +10,9 @@ use Rattle.gate_node.specs.declared.fault.PoolFault.{PoolFault}
 use Rattle.gate_node.specs.declared.fault.PoolFault.TheVariants.{NoMemory, NoThread, JobsFailed, BookFull}
 use Rattle.worker_pool.specs.declared.job.Job.{Job}
 use Rattle.worker_pool.specs.declared.server.ServedJob.{ServedJob}
-use Rattle.worker_pool.specs.Leaving.{ArePastTogether, IsFaultAfter, IsFaultOf, LeavesSource, ServedPastSums}
+use Rattle.worker_pool.specs.JobFaults.{ArePastTogether, IsFaultAfter, IsFaultOf, LeavesSource, ServedPastSums}
 use Rattle.worker_pool.proofs.Runs.{AllServedOnce, source_served}
-use Rattle.worker_pool.proofs.Summing.{Counts, sums_sessions}
+use Rattle.worker_pool.proofs.JobSums.{Counts, sums_sessions}
 
 -- a fault of the ends alone
 pub fault_after : {I O : Type 0} (served : List (ServedJob I O)) (workers : List Totals) (fault : PoolFault) → IsFaultOf served fault → IsFaultAfter served workers fault

@@ -11,7 +11,7 @@ use Rattle.gate_node.specs.Passes.{ArePassesOf}
 use Rattle.worker_pool.specs.declared.job.Job.{Job}
 use Rattle.worker_pool.specs.declared.job.End.{End}
 use Rattle.worker_pool.specs.declared.server.ServedJob.{ServedJob}
-use Rattle.worker_pool.specs.Serving.{EndsWell, Serves, WereOfRun, counted_whole, end_passes}
+use Rattle.worker_pool.specs.JobEnds.{EndsWell, Serves, WereOfRun, counted_whole, end_passes}
 
 module _ {I O : Type 0} (shared : Gates) where
   abbrev HasPassesOf : End I O → Type 0

@@ -18,7 +18,7 @@ use Rattle.gate_node.proofs.InHistories.{AreSeen, seen_before_step}
 use Rattle.worker_pool.specs.declared.job.Job.{Job}
 use Rattle.worker_pool.specs.declared.job.End.{End}
 use Rattle.worker_pool.specs.declared.server.ServedJob.{ServedJob}
-use Rattle.worker_pool.specs.Serving.{EndsAtEnd, EndsAtFault, EndsWell, Joins, counted_whole}
+use Rattle.worker_pool.specs.JobEnds.{EndsAtEnd, EndsAtFault, EndsWell, Joins, counted_whole}
 
 module _ (histories : List GateHistory) {I O : Type 0} (source : I → SourceView) (target : O → TargetView) (shared : Gates) where
   abbrev In : NodeOverGates → Request → Reply → NodeOverGates → Type 0

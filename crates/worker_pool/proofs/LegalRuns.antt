@@ -20,8 +20,8 @@ use Rattle.worker_pool.specs.declared.closed.Closed.{Closed}
 use Rattle.worker_pool.specs.declared.job.Job.{Job}
 use Rattle.worker_pool.specs.declared.job.End.{End}
 use Rattle.worker_pool.specs.declared.server.ServedJob.{ServedJob}
-use Rattle.worker_pool.specs.Legal.{PlainRunIsLegal}
-use Rattle.worker_pool.specs.Serving.{EndsAtEnd, EndsAtFault, EndsWell, Joins, counted_whole}
+use Rattle.worker_pool.specs.LegalJobs.{PlainRunIsLegal}
+use Rattle.worker_pool.specs.JobEnds.{EndsAtEnd, EndsAtFault, EndsWell, Joins, counted_whole}
 
 module _ (histories : List GateHistory) {I O : Type 0} (source : I → SourceView) (target : O → TargetView) (shared : Gates) (none : AreNone shared.fallbacks) (are : AreOfCommands histories) where
   abbrev In : NodeOverGates → Request → Reply → NodeOverGates → Type 0

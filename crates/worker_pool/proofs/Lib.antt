@@ -1,9 +1,22 @@
 -- The lemmas of this crate.
+pub mod Keeping
+pub mod Mapping
+pub mod Shifting
+pub mod Resuming
+pub mod Resting
+pub mod EndReporters
+pub mod WorkerSetups
+pub mod Gathering
+pub mod Counted
+pub mod Summing
+pub mod Told
+pub mod Legal
+pub mod Sources
 pub mod SameGates
 pub mod Staying
 pub mod Closing
 pub mod Ends
-pub mod Summing
+pub mod JobSums
 pub mod Histories
 pub mod InHistories
 pub mod Runs

@@ -15,12 +15,12 @@ use Rattle.gate_node.proofs.Histories.{each_seen}
 use Rattle.worker_pool.specs.declared.closed.Closed.{Closed}
 use Rattle.worker_pool.specs.declared.job.Job.{Job}
 use Rattle.worker_pool.specs.declared.server.ServedJob.{ServedJob}
-use Rattle.worker_pool.specs.Serving.{EndsWell, Serves, counted_whole, end_passes}
+use Rattle.worker_pool.specs.JobEnds.{EndsWell, Serves, counted_whole, end_passes}
 use Rattle.worker_pool.specs.Run.{ServesSource}
 use Rattle.worker_pool.proofs.Ends.{pairwise_whole}
 use Rattle.worker_pool.proofs.Histories.{ends_of_run}
 use Rattle.worker_pool.proofs.InHistories.{ends_in}
-use Rattle.worker_pool.proofs.Summing.{Counts, served_all, sums_sessions}
+use Rattle.worker_pool.proofs.JobSums.{Counts, served_all, sums_sessions}
 
 -- three things that a result says
 pub if_ok_three : {A B : Type 0} (P Q R S : A → Type 0) (r : Result A B) → ((a : A) → P a → Q a → R a → S a) → IfOk r P → IfOk r Q → IfOk r R → IfOk r S

@@ -2,7 +2,7 @@
 use Rattle.std.proofs.Common.{◌≡◌, ◌∙◌, ◌+◌, ℕ, List, [], ◌∷◌, length, arith, ap, refl, sym}
 use Rattle.std.specs.Prelude.{Option, Some, None, slice_get, slice_set, zero, suc}
 use Rattle.gate_node.specs.Gates.{Gates, HandoffView}
-use Rattle.session_pool.specs.Resuming.{IsOnceDiverted, AreDiverted, IsLater}
+use Rattle.worker_pool.specs.Resuming.{IsOnceDiverted, AreDiverted, IsLater}
 
 abbrev number : {F : Type 0} → (F → ℕ) → Option F → ℕ
 number of None = 0

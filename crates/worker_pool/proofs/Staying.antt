@@ -13,8 +13,8 @@ use Rattle.node_session.proofs.Streaming.{given_as}
 use Rattle.gate_node.specs.Gates.{Gates}
 use Rattle.gate_node.specs.GateStep.{NodeOverGates, GateNodeStep, Request, Reply}
 use Rattle.gate_node.proofs.Keeping.{step-keeps}
-use Rattle.session_pool.specs.Resuming.{IsLater, RunStep}
-use Rattle.session_pool.proofs.Resuming.{later_on}
+use Rattle.worker_pool.specs.Resuming.{IsLater, RunStep}
+use Rattle.worker_pool.proofs.Resuming.{later_on}
 use Rattle.worker_pool.proofs.SameGates.{later_both}
 
 module _ (shared : Gates) where

@@ -1,84 +1,37 @@
--- The totals of the shares are what the sessions counted.
-use Rattle.std.proofs.Common.{◌≡◌, ◌+◌, ℕ, zero, suc, List, [], ◌∷◌, map, arith, sym, refl, subst}
-use Rattle.std.proofs.lemmas.List.Sums.{sum_by-cons}
-use Rattle.std.specs.List.{sum_by}
-use Rattle.std.specs.Prelude.{Option, replicate}
-use Rattle.job_pool.specs.Lists.{Pairwise}
-use Rattle.job_pool.specs.Turns.{ServedOnce}
-use Rattle.job_pool.proofs.Lists.{pairs_more}
-use Rattle.job_pool.proofs.Once.{once_pairs, once_sums}
-use Rattle.node_session.specs.Streams.{SourceView, TargetView}
-use Rattle.stats_book.specs.Counting.{both, sum_of, zeros}
+-- What the workers of a run counted in all.
+use Rattle.std.proofs.Common.{◌≡◌, ◌∙◌, ◌+◌, ◌≤◌, ◌^◌, ℕ, Bool, true, false, List, [], ◌∷◌, ◌++◌, arith, ap, subst, sym}
+use Rattle.std.specs.Prelude.{MatchBool}
+use Rattle.stats_book.specs.Counting.{ArePastFull, both, number_of, sum_of, zeros}
 use Rattle.stats_book.specs.declared.totals.Totals.{Totals}
-use Rattle.gate_node.specs.Gates.{Gates}
-use Rattle.gate_node.specs.GateStep.{GateNodeStep}
-use Rattle.worker_pool.specs.declared.job.Job.{Job}
-use Rattle.worker_pool.specs.declared.job.End.{End}
-use Rattle.worker_pool.specs.declared.server.ServedJob.{ServedJob}
-use Rattle.worker_pool.specs.Serving.{CountsInSession, Serves, counted_whole}
-use Rattle.worker_pool.specs.Summing.{SessionTurn, SumsSessions, sums_before, sums_after}
+use Rattle.worker_pool.proofs.Gathering.{both_assoc, both_none, none_both, number_both, sum_append}
 
-module _ (q : Totals → ℕ) (none : q zeros ≡ 0) (add : (a b : Totals) → q (both a b) ≡ q a + q b) where
-  number_sum : {A : Type 0} (f : A → Totals) (xs : List A) → q (sum_of (map f xs)) ≡ sum_by (λ x. q (f x)) xs
-  number_sum f [] = none
-  number_sum f (x ∷ xs) =
-      let rest = number_sum f xs in
-      let one = sum_by-cons (λ y. q (f y)) x xs in
-      let here = add (f x) (sum_of (map f xs)) in
-      omega (arith, rest, one, here)
+-- one more at the end
+pub sum_more : (done : List Totals) (one : Totals) → sum_of (done ++ one ∷ []) ≡ both (sum_of done) one
+sum_more done one = sum_append done (one ∷ []) ∙ ap (both (sum_of done)) (both_none one)
 
-  plain_sum : (ts : List Totals) → q (sum_of ts) ≡ sum_by q ts
-  plain_sum [] = none
-  plain_sum (t ∷ ts) =
-      let rest = plain_sum ts in
-      let one = sum_by-cons q t ts in
-      let here = add t (sum_of ts) in
-      omega (arith, rest, one, here)
+still_past : (last before one rest all : ℕ) → last ≤ before + one → (before + one) + rest ≡ all → last ≤ all
+still_past last before one rest all past is = omega (arith, past, is)
 
-  none_sum : (n : ℕ) → sum_by q (replicate n zeros) ≡ 0
-  none_sum zero = refl
-  none_sum (suc n) =
-      let rest = none_sum n in
-      let one = sum_by-cons q zeros (replicate n zeros) in
-      omega (arith, rest, one, none)
+-- where one more would pass the last number, all of them together do
+pub past_on : (done : List Totals) (one : Totals) (rest : List Totals) → ArePastFull (sum_of done) one → ArePastFull zeros (sum_of (done ++ one ∷ rest))
+past_on done one rest past =
+    let quantity = past.0 in
+    let number = number_of quantity in
+    let before = both (sum_of done) one in
+    let same : both before (sum_of rest) ≡ both zeros (sum_of (done ++ one ∷ rest)) = both_assoc (sum_of done) one (sum_of rest) ∙ sym (sum_append done (one ∷ rest)) ∙ sym (none_both (sum_of (done ++ one ∷ rest))) in
+    let whole = ap number same in
+    let first = number_both quantity (sum_of done) one in
+    let second = number_both quantity before (sum_of rest) in
+    let last = number_both quantity zeros (sum_of (done ++ one ∷ rest)) in
+    let sums : (number (sum_of done) + number one) + number (sum_of rest) ≡ number zeros + number (sum_of (done ++ one ∷ rest)) = ap (λ (n : ℕ). n + number (sum_of rest)) first ∙ second ∙ whole ∙ sym last in
+    (quantity, still_past (2 ^ 64) (number (sum_of done)) (number one) (number (sum_of rest)) (number zeros + number (sum_of (done ++ one ∷ rest))) past.1 sums)
 
-  module _ {I O : Type 0} (R : Totals → Job I O → Totals → ServedJob I O → Type 0) (jobs : List (Job I O)) (n : ℕ) (ends : List (ServedJob I O)) (lasts : List Totals) where
-    number_raised : (h : ServedOnce R jobs (replicate n zeros) ends lasts) → q (both (sums_before h.turns) (sum_of lasts)) ≡ q (sums_after h.turns)
-    number_raised h =
-        let all = once_sums R q jobs (replicate n zeros) ends lasts h in
-        let first = none_sum n in
-        let last = plain_sum lasts in
-        let before = number_sum (λ (s : SessionTurn I O). s.before) h.turns in
-        let after = number_sum (λ (s : SessionTurn I O). s.after) h.turns in
-        let here = add (sums_before h.turns) (sum_of lasts) in
-        omega (arith, all, first, last, before, after, here)
+-- a loop that adds one after another
+pub sum_on : (added : Bool) (totals totals' more one : Totals) (done : List Totals) → MatchBool added (totals' ≡ both totals more) (totals' ≡ totals) → added ≡ true → more ≡ one → totals ≡ sum_of done → totals' ≡ sum_of (done ++ one ∷ [])
+sum_on true totals totals' more one done is was same sum = is ∙ ap (λ (t : Totals). both totals t) same ∙ ap (λ (t : Totals). both t one) sum ∙ sym (sum_more done one)
+sum_on false totals totals' more one done is was same sum = absurd (cc was)
 
-module _ {I O : Type 0} (R : Totals → Job I O → Totals → ServedJob I O → Type 0) (jobs : List (Job I O)) (n : ℕ) (ends : List (ServedJob I O)) (lasts : List Totals) where
-  all_raised : (h : ServedOnce R jobs (replicate n zeros) ends lasts) → both (sums_before h.turns) (sum_of lasts) ≡ sums_after h.turns
-  all_raised h =
-      let gets = number_raised (λ t. t.gets) refl (λ a b. refl) R jobs n ends lasts h in
-      let puts = number_raised (λ t. t.puts) refl (λ a b. refl) R jobs n ends lasts h in
-      let deletes = number_raised (λ t. t.deletes) refl (λ a b. refl) R jobs n ends lasts h in
-      let refusals = number_raised (λ t. t.refusals) refl (λ a b. refl) R jobs n ends lasts h in
-      let reaps = number_raised (λ t. t.reaps) refl (λ a b. refl) R jobs n ends lasts h in
-      λ i. record { gets = gets i; puts = puts i; deletes = deletes i; refusals = refusals i; reaps = reaps i }
-
-module _ {I O : Type 0} (source : I → SourceView) (target : O → TargetView) (shared : Gates) where
-  abbrev pub Counts : Totals → Job I O → Totals → ServedJob I O → Type 0
-  Counts = CountsInSession source target shared
-
-  -- each job was served
-  pub served_all : (jobs : List (Job I O)) (firsts : List Totals) (ends : List (ServedJob I O)) (lasts : List Totals) → ServedOnce Counts jobs firsts ends lasts → Pairwise (Serves GateNodeStep source target shared) jobs ends
-  served_all jobs firsts ends lasts h = pairs_more (λ job served was. (was.2.0, was.2.1, was.2.4)) jobs ends (once_pairs Counts jobs firsts ends lasts h)
-
-  -- and by the sums of the shares the sessions raised the numbers
-  pub sums_sessions : (n : ℕ) (jobs : List (Job I O)) (firsts : List Totals) (served : List (ServedJob I O)) (lasts : List Totals) (ends : List (End I O)) (totals : Totals) → firsts ≡ replicate n zeros → map counted_whole ends ≡ served → totals ≡ sum_of lasts → ServedOnce Counts jobs firsts served lasts
-      → SumsSessions source target shared n jobs ends totals
-  sums_sessions n jobs firsts served lasts ends totals new whole sums h =
-      let once : ServedOnce Counts jobs (replicate n zeros) (map counted_whole ends) lasts = subst (λ es. ServedOnce Counts jobs (replicate n zeros) es lasts) (sym whole) (subst (λ fs. ServedOnce Counts jobs fs served lasts) new h) in
-      record {
-        counts = lasts;
-        once = once;
-        sums = sums;
-        raised = subst (λ t. both (sums_before once.turns) t ≡ sums_after once.turns) (sym sums) (all_raised Counts jobs n (map counted_whole ends) lasts once);
-      }
+pub past_here : (totals more one : Totals) (done rest left all : List Totals) → ArePastFull totals more → more ≡ one → totals ≡ sum_of done → left ≡ one ∷ rest → done ++ left ≡ all → ArePastFull zeros (sum_of all)
+past_here totals more one done rest left all past same sum next is =
+    subst (λ (l : List Totals). ArePastFull zeros (sum_of l)) (ap (λ (l : List Totals). done ++ l) (sym next) ∙ is)
+    (past_on done one rest (subst (λ (t : Totals). ArePastFull t one) sum (subst (λ (t : Totals). ArePastFull totals t) same past)))

@@ -1,61 +1,49 @@
--- What a run that ends by a fault leaves.
-use Rattle.std.specs.Prelude.{◌≡◌, ◌⊎◌, ℕ, true, List, [], ◌∷◌, Option, Result, map}
-use Rattle.job_pool.specs.Giving.{AllServed, GaveAll, GaveSome, GaveThenFailed}
-use Rattle.job_pool.specs.declared.jobs.JobFault.{JobFault}
+-- How a session that went on is left.
+use Rattle.std.specs.Prelude.{◌≡◌, ℕ, Bool, false, List, Option}
+use Rattle.riak_msgs.specs.declared.Request.{Request}
+use Rattle.riak_msgs.specs.declared.Reply.{Reply}
 use Rattle.node_session.specs.Streams.{SourceView, TargetView}
-use Rattle.stats_book.specs.Counting.{ArePastFull, sum_of, zeros}
+use Rattle.node_session.specs.Stages.{IsGoing, IsOverBy}
+use Rattle.stats_book.specs.Counting.{both}
 use Rattle.stats_book.specs.declared.totals.Totals.{Totals}
 use Rattle.gate_node.specs.Gates.{Gates}
-use Rattle.gate_node.specs.GateStep.{GateNodeStep}
-use Rattle.gate_node.specs.declared.fault.PoolFault.{PoolFault}
-use Rattle.gate_node.specs.declared.fault.PoolFault.TheVariants.{NoMemory, NoThread, JobsFailed, BookFull}
-use Rattle.worker_pool.specs.declared.job.Job.{Job}
-use Rattle.worker_pool.specs.declared.job.End.{End}
-use Rattle.worker_pool.specs.declared.server.ServedJob.{ServedJob}
-use Rattle.worker_pool.specs.Serving.{Serves, counted_whole}
-use Rattle.worker_pool.specs.Summing.{SumsSessions}
+use Rattle.gate_node.specs.GateStep.{NodeOverGates}
+use Rattle.gate_node.specs.Passes.{ArePassesOf}
+use Rattle.worker_pool.specs.declared.left.EndedSession.{EndedSession}
+use Rattle.worker_pool.specs.declared.left.Left.{Left}
+use Rattle.worker_pool.specs.declared.left.Left.TheVariants.{Ended, Rests}
+use Rattle.worker_pool.specs.Resuming.{IsLater, RunStep}
+use Rattle.worker_pool.specs.PausedSessions.{Origin, PausedSessionView, RestsAgain, first_node}
 
--- at one of these ends the worker had no room for all that its session was to count
-abbrev pub MetFullBook : {I O : Type 0} → List (ServedJob I O) → Type 0
-MetFullBook [] = ⊥
-MetFullBook (served ∷ rest) = (served.book_full ≡ true) ⊎ MetFullBook rest
+-- it is over
+abbrev pub IsEnd : {R W : Type 0} → Left R W → Type 0
+IsEnd (Ended ended) = Unit {0}
+IsEnd (Rests session) = ⊥
 
--- why there are no ends, where these jobs were served
-abbrev pub IsFaultOf : {I O : Type 0} → List (ServedJob I O) → PoolFault → Type 0
-IsFaultOf served NoMemory = Unit {0}
-IsFaultOf served NoThread = ⊥
-IsFaultOf served JobsFailed = ⊥
-IsFaultOf served BookFull = MetFullBook served
+module _ {R W : Type 0} (source : R → SourceView) (target : W → TargetView) where
+  -- a session that began there, over gates which became these, came to this end, by this step from its first read on
+  pub record EndsOver (shared : Gates) (Step : NodeOverGates → Request → Reply → NodeOverGates → Type 0) (origin : Origin) (ended : EndedSession R W) (after : NodeOverGates) : Type 0 where
+    pub from : ended.origin ≡ origin
+    pub later : IsLater origin.gates shared
+    pub reaches : IsLater after.shared shared
+    pub left : after.passes ≡ ended.passes
+    pub kept : ArePassesOf shared ended.passes
+    pub session : IsOverBy Step (first_node origin) after origin.source (source ended.reader) origin.target (target ended.writer) origin.gates.reads ended.result
 
--- at none of these ends a worker had no room, but what the workers counted would pass the last number together
-abbrev pub ArePastTogether : {I O : Type 0} → List (ServedJob I O) → List Totals → Type 0
-ArePastTogether {I} {O} served workers = (ends : List (End I O)) × (map counted_whole ends ≡ served) × ArePastFull zeros (sum_of workers)
+  -- a session is left as it is: it is over, and came to this end, or it rests
+  abbrev pub IsLeftAs : PausedSessionView R W → Left R W → Type 0
+  IsLeftAs session (Ended ended) = EndsOver session.over RunStep session.origin ended session.rest
+  IsLeftAs session (Rests now) = (now ≡ session) × IsGoing session.session.stage
 
--- why nothing is left, where these jobs were served by workers that counted so much
-abbrev pub IsFaultAfter : {I O : Type 0} → List (ServedJob I O) → List Totals → PoolFault → Type 0
-IsFaultAfter served workers NoMemory = Unit {0}
-IsFaultAfter served workers NoThread = ⊥
-IsFaultAfter served workers JobsFailed = ⊥
-IsFaultAfter served workers BookFull = MetFullBook served ⊎ ArePastTogether served workers
+  module _ (shared : Gates) (Step : NodeOverGates → Request → Reply → NodeOverGates → Type 0) where
+    -- a session that rested came to this end, and has counted so much more; and its node has met no full book, where so
+    pub record IsEndOf (session : PausedSessionView R W) (counted : Totals) (full : Bool) (ended : EndedSession R W) : Type 0 where
+      pub after : NodeOverGates
+      pub ends : EndsOver shared Step session.origin ended after
+      pub counts : full ≡ false → both session.rest.count.counted counted ≡ after.count.counted
+      pub room : full ≡ false → after.count.book_full ≡ false
 
-module _ {J I O : Type 0} (Gives : J → Result (Option (Job I O)) JobFault → J → Type 0) (source : I → SourceView) (target : O → TargetView) (shared : Gates) where
-  -- all jobs were served, and at the end of one of the sessions its worker had no room for what it had counted
-  abbrev pub ServedPastFullBook : J → J → Type 0
-  ServedPastFullBook first last = (served : List (ServedJob I O)) × AllServed Gives (Serves GateNodeStep source target shared) first served last × MetFullBook served
-
-  -- all jobs were served, and at none of the ends a worker had no room, but what the sessions counted would pass the last number together
-  pub record ServedPastSums (first last : J) : Type 0 where
-    pub workers : ℕ
-    pub jobs : List (Job I O)
-    pub gave : GaveAll Gives first jobs last
-    pub ends : List (End I O)
-    pub totals : Totals
-    pub sums : SumsSessions source target shared workers jobs ends totals
-    pub past : ArePastFull zeros totals
-
-  -- what is left of the source of jobs
-  abbrev pub LeavesSource : PoolFault → J → J → Type 0
-  LeavesSource NoMemory first last = GaveSome Gives first last
-  LeavesSource NoThread first last = last ≡ first
-  LeavesSource JobsFailed first last = GaveThenFailed Gives first last
-  LeavesSource BookFull first last = ServedPastFullBook first last ⊎ ServedPastSums first last
+    -- that, or it rests again
+    abbrev pub LeavesSession : PausedSessionView R W → Totals → Bool → Left R W → Type 0
+    LeavesSession session counted full (Ended ended) = IsEndOf session counted full ended
+    LeavesSession session counted full (Rests now) = RestsAgain shared session counted full now

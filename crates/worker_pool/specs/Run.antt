@@ -7,7 +7,7 @@ use Rattle.node_session.specs.Streams.{SourceView, TargetView}
 use Rattle.gate_node.specs.Gates.{Gates}
 use Rattle.worker_pool.specs.declared.closed.Closed.{Closed}
 use Rattle.worker_pool.specs.declared.job.Job.{Job}
-use Rattle.worker_pool.specs.Serving.{EndsWell}
+use Rattle.worker_pool.specs.JobEnds.{EndsWell}
 use Rattle.worker_pool.specs.Summing.{SumsSessions}
 use Rattle.gate_node.specs.Tallies.{GateHistory, IsTally, CountsAll}
 use Rattle.gate_node.specs.OneHistory.{AreOfGates, StepIn}

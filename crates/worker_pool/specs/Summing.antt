@@ -8,7 +8,7 @@ use Rattle.gate_node.specs.Gates.{Gates}
 use Rattle.worker_pool.specs.declared.job.Job.{Job}
 use Rattle.worker_pool.specs.declared.job.End.{End}
 use Rattle.worker_pool.specs.declared.server.ServedJob.{ServedJob}
-use Rattle.worker_pool.specs.Serving.{CountsInSession, counted_whole}
+use Rattle.worker_pool.specs.JobEnds.{CountsInSession, counted_whole}
 
 -- a session that was to be held, as a turn of a worker that counts
 abbrev pub SessionTurn : Type 0 → Type 0 → Type 0

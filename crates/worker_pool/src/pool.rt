@@ -3,20 +3,23 @@ ghost use Rattle.std.specs.Prelude.{◌≡◌, ◌≤◌, length, map, IfOk, IfE
 ghost use Rattle.job_pool.specs.Giving.{GivesOnly};
 ghost use Rattle.stats_book.specs.Counting.{sum_of};
 ghost use Rattle.gate_node.specs.OneHistory.{ShareHistories};
-ghost use Rattle.worker_pool.specs.Serving.{IsForGates, WereOfRun, counted_whole, end_passes};
+ghost use Rattle.worker_pool.specs.JobEnds.{IsForGates, WereOfRun, counted_whole, end_passes};
 ghost use Rattle.worker_pool.specs.Run.{ServesSource};
-ghost use Rattle.worker_pool.specs.Leaving.{LeavesSource, IsFaultAfter, IsFaultOf};
+ghost use Rattle.worker_pool.specs.JobFaults.{LeavesSource, IsFaultAfter, IsFaultOf};
 
 use crate::closed::Closed;
 use crate::job::{End, EndRead, EndWrite, Job};
+use crate::pause::NoPause;
 use crate::server::{ServedJob, Server};
+use crate::serving::pool_fault;
+use crate::session_service::{OfGates, SessionService};
 use crate::stream_readiness::{ShownStreams, new_rounds};
 use crate::worker_setups::new_worker_setups;
+use crate::worker_state::{WorkerState, sum_up};
 use gate_node::{PoolFault, Shared, Turnstile, tallies_of};
 use job_pool::{
     Finished, Jobs, Post, Rounds, StreamReadiness, Wake, Wakes, Wakeup, ends_in_order, run_at,
 };
-use session_pool::{NoPause, OfGates, SessionService, WorkerState, pool_fault, sum_up};
 use std::alloc::Global;
 use std::marker::Brand;
 use std::sync::Wait;

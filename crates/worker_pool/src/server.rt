@@ -1,12 +1,14 @@
 //! The service of the workers of a run: each job as a session that is served to its end.
 
 use crate::job::{End, EndRead, EndWrite, Job};
+use crate::left::{EndedSession, Left};
+use crate::open_session::OpenSession;
+use crate::pause::NoPause;
+use crate::paused_session::PausedSession;
+use crate::session_service::{LeftSession, OfGates, SessionService};
+use crate::worker_state::WorkerState;
 use gate_node::Turnstile;
 use job_pool::{Service, StepOutcome};
-use session_pool::{
-    EndedSession, Left, LeftSession, NoPause, OfGates, OpenSession, PausedSession, SessionService,
-    WorkerState,
-};
 use std::alloc::Global;
 use std::sync::Wait;
 
@@ -41,7 +43,7 @@ where
     type Open = OpenSession<'a, X, T, I, O>;
 
     ghost use Rattle.node_session.specs.Stages.{IsOver};
-    ghost use Rattle.worker_pool.specs.Serving.{IsForGates, CountsInSession, StandsFor};
+    ghost use Rattle.worker_pool.specs.JobEnds.{IsForGates, CountsInSession, StandsFor};
 
     ghost accepts = { λ server job. IsForGates server.session_service job };
 

@@ -2,10 +2,11 @@
 ghost use Rattle.std.specs.Prelude.{◌≡◌, length, IfOk};
 
 use crate::job::{EndRead, EndWrite};
+use crate::open_session::OpenSession;
 use crate::server::Server;
+use crate::session_service::OfGates;
 use gate_node::Turnstile;
 use job_pool::{Post, Readiness, Rounds, StepOutcome, StreamReadiness, Turn, Wake};
-use session_pool::{OfGates, OpenSession};
 use std::alloc::{AllocError, Global};
 use std::sync::Wait;
 

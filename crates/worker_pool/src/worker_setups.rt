@@ -7,8 +7,8 @@ ghost use Rattle.stats_book.specs.Counting.{zeros};
 
 use crate::server::ServedJob;
 use crate::stream_readiness::ShownStreams;
+use crate::worker_state::{WorkerState, new_worker_states};
 use job_pool::{Collected, Post, WorkerSetup, collecting_setups};
-use session_pool::{WorkerState, new_worker_states};
 use std::alloc::{AllocError, Global};
 
 /// What a worker is started with: its sink keeps all ends.

@@ -8,7 +8,7 @@ use Rattle.node_session.specs.declared.ended.Ended.{Ended}
 use Rattle.node_session.specs.declared.fault.SessionFault.{SessionFault}
 use Rattle.gate_node.specs.GateStep.{NodeOverGates, GateNodeStep}
 use Rattle.gate_node.proofs.Keeping.{step-keeps}
-use Rattle.session_pool.proofs.Keeping.{over_keeps}
+use Rattle.worker_pool.proofs.Keeping.{over_keeps}
 
 module _ (old new : NodeOverGates) (unread unread' held held' : Option (List ℕ)) (reads : ℕ) where
   -- by what `serve` says of it

@@ -1,19 +1,18 @@
 -- Sessions of a test that rest, and may go on.
-use Rattle.std.proofs.Common.{◌≡◌, ◌∙◌, ℕ, List, [], ◌∷◌, ◌++◌, Vec, Global, map, ap, refl, sym, subst}
+use Rattle.std.proofs.Common.{◌≡◌, ◌∙◌, List, [], ◌∷◌, ◌++◌, Vec, Global, map, ap, refl, sym, subst}
 use Rattle.std.proofs.lemmas.List.{append-nil, append_assoc}
-use Rattle.std.specs.Prelude.{Option}
 use Rattle.job_pool.specs.Lists.{Every, concat}
 use Rattle.job_pool.proofs.Lists.{all_more}
 use Rattle.job_pool.specs.declared.worker.NumberedEnd.{NumberedEnd}
 use Rattle.node_session.specs.Streams.{SourceView, TargetView}
 use Rattle.gate_node.specs.Gates.{Gates}
 use Rattle.gate_node.specs.Passes.{Sights}
-use Rattle.session_pool.specs.declared.end_sink.SessionEnd.{SessionEnd}
-use Rattle.session_pool.specs.declared.served_sessions.ServedSessions.{ServedSessions}
-use Rattle.session_pool.specs.Resuming.{IsLater}
-use Rattle.session_pool.specs.PausedSessions.{PausedSessionView, CanGoOn}
-use Rattle.session_pool.specs.Telling.{RestedSession, IsRestedSession, TellsAll, now_of}
-use Rattle.session_pool.proofs.Resuming.{later_on, later_same}
+use Rattle.worker_pool.specs.declared.end_sink.SessionEnd.{SessionEnd}
+use Rattle.worker_pool.specs.declared.served_sessions.ServedSessions.{ServedSessions}
+use Rattle.worker_pool.specs.Resuming.{IsLater}
+use Rattle.worker_pool.specs.PausedSessions.{PausedSessionView, CanGoOn}
+use Rattle.worker_pool.specs.Telling.{RestedSession, IsRestedSession, TellsAll, now_of}
+use Rattle.worker_pool.proofs.Resuming.{later_on, later_same}
 
 pub all_left : {A : Type 0} (P : A → Type 0) (xs : List A) (x : A) → Every P (xs ++ x ∷ []) → Every P xs
 all_left P [] x h = tt

@@ -3,7 +3,7 @@
 //! fallback 98,304.
 ghost use Rattle.std.specs.Prelude.{◌≡◌, ◌<◌, ◌^◌, true, IfSome};
 ghost use Rattle.gate_node.specs.Passes.{Sights, ArePassesOf};
-ghost use Rattle.session_pool.specs.Resuming.{IsLater};
+ghost use Rattle.worker_pool.specs.Resuming.{IsLater};
 
 use crate::exchanges::{GET_BOTH, NOTHING_ACCEPTED, NOTHING_COUNTED, STORED_TWICE, new_shared};
 use crate::playing::{NEW_SESSION, Session, play_on};

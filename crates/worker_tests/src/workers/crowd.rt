@@ -2,7 +2,7 @@
 ghost use Rattle.std.specs.Prelude.{◌+◌, ◌≤◌, length, vec_len, vec_capacity};
 ghost use Rattle.job_pool.specs.Lists.{Every};
 ghost use Rattle.gate_node.specs.Passes.{ArePassesOf};
-ghost use Rattle.session_pool.specs.EndReporters.{IsNewServingSetup};
+ghost use Rattle.worker_pool.specs.EndReporters.{IsNewServingSetup};
 
 use crate::exchanges::{NOTHING_ACCEPTED, NOTHING_COUNTED, new_shared};
 use crate::workers::runs::{GET_ABSENT, Run};
@@ -11,13 +11,13 @@ use crate::workers::served::is_served;
 use crate::workers::serving_setups::{TestServingSetup, serving_setups_apart};
 use crate::workers::sessions::{TestServed, play_new};
 use crate::workers::streams::Counts;
-use session_pool::{Passes, Shared};
 use stats_book::Totals;
 use std::alloc::Global;
 use std::process::Abort;
 use std::sync::{Arc, Wait};
 use std::test::*;
 use std::thread::Threads;
+use worker_pool::{Passes, Shared};
 
 /// How many workers there are.
 const WORKERS: u16 = 40;

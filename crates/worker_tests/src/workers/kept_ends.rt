@@ -3,10 +3,10 @@ ghost use Rattle.std.specs.Prelude.{◌≡◌, ◌+◌, ◌≤◌, ◌++◌, ◌
 
 use crate::workers::streams::{Counts, Input, Output};
 use job_pool::NumberedEnd;
-use session_pool::{Began, EndSink, SessionEnd, Shared};
 use std::alloc::Global;
 use std::sync::Arc;
 use std::sync::atomic::Ordering;
+use worker_pool::{Began, EndSink, SessionEnd, Shared};
 
 /// Keeps the ends that it was told, and the numbers of the sessions that rest and of those that were refused.
 #[derive(Drop)]

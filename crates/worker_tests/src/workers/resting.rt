@@ -3,8 +3,8 @@ ghost use Rattle.std.specs.Prelude.{◌≡◌, ◌+◌, ◌≤◌, length, map, 
 ghost use Rattle.job_pool.specs.Lists.{Every, concat};
 ghost use Rattle.gate_node.specs.Gates.{Gates};
 ghost use Rattle.gate_node.specs.Passes.{ArePassesOf};
-ghost use Rattle.session_pool.specs.PausedSessions.{CanGoOn};
-ghost use Rattle.session_pool.specs.EndReporters.{IsNewServingSetup};
+ghost use Rattle.worker_pool.specs.PausedSessions.{CanGoOn};
+ghost use Rattle.worker_pool.specs.EndReporters.{IsNewServingSetup};
 
 mod counted;
 mod cuts;
@@ -17,13 +17,13 @@ use crate::workers::script::{Line, Wires};
 use crate::workers::serving_setups::{TestServingSetup, new_serving_setups};
 use crate::workers::sessions::{AfterLooks, Sessions, TestServed, TestSession, play};
 use crate::workers::streams::Counts;
-use session_pool::{Passes, Pause, ServedSessions, Shared};
 use stats_book::Totals;
 use std::alloc::Global;
 use std::mem;
 use std::sync::atomic::AtomicU64;
 use std::sync::{Arc, Wait};
 use std::thread::Threads;
+use worker_pool::{Passes, Pause, ServedSessions, Shared};
 
 /// How runs over the same gates are made.
 #[derive(Clone, Copy)]

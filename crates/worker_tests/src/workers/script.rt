@@ -60,7 +60,7 @@ impl<'a> Jobs for Script<'a> {
     type Job = Job<Input, Output>;
 
     ghost use Rattle.std.specs.Prelude.{◌≡◌, ⊤, MatchResult, MatchOption};
-    ghost use Rattle.worker_pool.specs.Serving.{IsForGates};
+    ghost use Rattle.worker_pool.specs.JobEnds.{IsForGates};
 
     ghost gives = { λ first given last. (last.shared ≡ first.shared) × MatchResult given
         (λ next. MatchOption next ⊤ (IsForGates first.shared.now))

@@ -2,7 +2,7 @@
 ghost use Rattle.std.specs.Prelude.{◌+◌, ◌≤◌, length, vec_len, vec_capacity};
 ghost use Rattle.job_pool.specs.Lists.{Every};
 ghost use Rattle.gate_node.specs.Passes.{ArePassesOf};
-ghost use Rattle.session_pool.specs.EndReporters.{IsNewServingSetup};
+ghost use Rattle.worker_pool.specs.EndReporters.{IsNewServingSetup};
 
 use crate::exchanges::{NOTHING_ACCEPTED, NOTHING_COUNTED, new_shared};
 use crate::workers::kept_ends::KeptEnds;
@@ -12,7 +12,6 @@ use crate::workers::serving_setups::{TestServingSetup, live_of, new_serving_setu
 use crate::workers::sessions::{TestServed, play_new};
 use crate::workers::streams::{Counts, Input, Output};
 use gate_node::tallies_of;
-use session_pool::{LiveCounts, Passes, PoolFault, SessionEnd, Shared};
 use stats_book::Totals;
 use std::alloc::Global;
 use std::process::Abort;
@@ -20,6 +19,7 @@ use std::slice;
 use std::sync::{Arc, Wait};
 use std::test::*;
 use std::thread::Threads;
+use worker_pool::{LiveCounts, Passes, PoolFault, SessionEnd, Shared};
 
 /// Runs whose sinks have no room for an end.
 const REFUSED: &[Run] = &[

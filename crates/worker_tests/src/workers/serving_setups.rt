@@ -1,17 +1,17 @@
-//! What the workers of [`serve`](session_pool::serve) wait with over the streams of the tests, and are woken by.
+//! What the workers of [`serve`](worker_pool::serve) wait with over the streams of the tests, and are woken by.
 ghost use Rattle.std.specs.Prelude.{◌≡◌, ◌+◌, ◌≤◌, length, vec_len, vec_capacity, IfOk};
 ghost use Rattle.job_pool.specs.Lists.{Every};
-ghost use Rattle.session_pool.specs.EndReporters.{IsNewServingSetup};
+ghost use Rattle.worker_pool.specs.EndReporters.{IsNewServingSetup};
 
 use crate::workers::kept_ends::KeptEnds;
 use crate::workers::streams::{Counts, Input, Output};
 use crossbeam_utils::sync::{Parker, Unparker};
 use job_pool::{StepOutcome, Turn, Wakeup};
-use session_pool::{LiveCounts, ServingSetup, StreamReadiness};
 use std::alloc::{AllocError, Global};
 use std::sync::atomic::Ordering;
 use std::sync::{Arc, Wait};
 use std::thread;
+use worker_pool::{LiveCounts, ServingSetup, StreamReadiness};
 
 /// All slots, one after another. A stream of a test is always ready, so a worker with a session open never sleeps.
 ///

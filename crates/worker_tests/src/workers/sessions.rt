@@ -4,22 +4,22 @@ ghost use Rattle.std.specs.Prelude.{IfSome};
 ghost use Rattle.job_pool.specs.Lists.{Every, concat};
 ghost use Rattle.gate_node.specs.Gates.{Gates};
 ghost use Rattle.gate_node.specs.Passes.{ArePassesOf};
-ghost use Rattle.session_pool.specs.PausedSessions.{CanGoOn};
-ghost use Rattle.session_pool.specs.EndReporters.{IsNewServingSetup};
+ghost use Rattle.worker_pool.specs.PausedSessions.{CanGoOn};
+ghost use Rattle.worker_pool.specs.EndReporters.{IsNewServingSetup};
 
 use crate::workers::kept_ends::KeptEnds;
 use crate::workers::runs::Run;
 use crate::workers::script::{Line, Wires, streams_of};
 use crate::workers::serving_setups::TestServingSetup;
 use crate::workers::streams::{Counts, Input, Output};
-use session_pool::{
-    JobFault, Jobs, NoPause, Open, Passes, Pause, PausedSession, PoolFault, ServedSessions, Shared,
-    serve,
-};
 use std::alloc::Global;
 use std::sync::atomic::{AtomicU64, Ordering};
 use std::sync::{Arc, Wait};
 use std::thread::Threads;
+use worker_pool::{
+    JobFault, Jobs, NoPause, Open, Passes, Pause, PausedSession, PoolFault, ServedSessions, Shared,
+    serve,
+};
 
 /// A session of a test.
 pub type TestSession = PausedSession<Input, Output>;
@@ -99,7 +99,7 @@ impl<'a> Jobs for Sessions<'a> {
 
     ghost use Rattle.std.specs.Prelude.{◌≡◌, ⊤, MatchResult, MatchOption};
     ghost use Rattle.job_pool.specs.Lists.{Every};
-    ghost use Rattle.session_pool.specs.PausedSessions.{CanGoOn};
+    ghost use Rattle.worker_pool.specs.PausedSessions.{CanGoOn};
 
     ghost gives = { λ first given last. (last.shared ≡ first.shared)
         × (Every (CanGoOn first.shared.now) first.resting.items

@@ -4,7 +4,7 @@ use Rattle.std.specs.Prelude.{IfErr, OnErr, OnOk}
 use mathlib.Core.Logic.{inl, inr}
 use Rattle.handoff.specs.Partitions.{IsDivertRefused}
 use Rattle.gate_node.specs.Gates.{Gates, handoff_of}
-use Rattle.session_pool.specs.Resuming.{IsOnceDiverted}
+use Rattle.worker_pool.specs.Resuming.{IsOnceDiverted}
 use Rattle.handoff_tracks.specs.Tracks.{HaveTracks}
 use Rattle.node_commands.proofs.Periods.{diverts, stays}
 use Rattle.node_commands.proofs.controlled.divert.Goals as goal

@@ -1,4 +1,4 @@
-use Rattle.std.proofs.Common.{◌≡◌, sym, subst}
+use Rattle.std.proofs.Common.{sym, subst}
 use Rattle.node_commands.specs.Runs.{IsServedUntil}
 use Rattle.node_commands.specs.declared.until.ServedUntil.{ServedUntil}
 use Rattle.node_commands.proofs.Legal.{served_until}

@@ -1,7 +1,7 @@
-use Rattle.std.proofs.Common.{◌≤◌, ◌∙◌, ℕ, map, refl, ap, subst, sym, None, Some}
+use Rattle.std.proofs.Common.{◌≤◌, ◌∙◌, ℕ, map, refl, ap, subst, sym, Some}
 use Rattle.std.specs.Prelude.{IfSome}
 use Rattle.std.proofs.lemmas.Result.{IfOk-weaker}
-use Rattle.session_pool.specs.Telling.{TellsSource}
+use Rattle.worker_pool.specs.Telling.{TellsSource}
 use Rattle.socket_streams.specs.Arriving.{ArrivalsView}
 use Rattle.socket_streams.specs.Sessions.{GivesSession, in_turn}
 use Rattle.node_commands.specs.Runs.{ToldConnections, replies_of, requests_of}

@@ -1,6 +1,6 @@
 use Rattle.std.proofs.Common.{◌≡◌, ◌∙◌, ◌++◌, ◌∷◌, [], ap, length, arith}
 use Rattle.std.proofs.lemmas.List.{length-append}
-use Rattle.session_pool.specs.declared.serving_setup.ServingSetup.{ServingSetup}
+use Rattle.worker_pool.specs.declared.serving_setup.ServingSetup.{ServingSetup}
 use Rattle.socket_streams.proofs.ServingSetups.{every_snoc}
 use Rattle.socket_streams.specs.declared.log_sink.LogSink.{LogSink}
 use Rattle.socket_streams.specs.declared.event_loop.EventLoop.{EventLoop}

@@ -1,6 +1,6 @@
 use Rattle.std.proofs.Common.{inr, sym, subst}
 use Rattle.gate_node.specs.OneHistory.{CallersAreOfRun}
-use Rattle.worker_pool.specs.Serving.{WereOfRun, end_passes}
+use Rattle.worker_pool.specs.JobEnds.{WereOfRun, end_passes}
 use Rattle.worker_pool.proofs.Faults.{fault_after}
 use Rattle.worker_pool.proofs.Histories.{whole_of_run}
 use Rattle.worker_pool.proofs.pool.finish.Goals as goal

@@ -1,6 +1,6 @@
 use Rattle.std.proofs.Common.{◌∙◌, ◌++◌, map, ap, sym, subst}
-use Rattle.worker_pool.specs.Serving.{counted_whole}
-use Rattle.worker_pool.specs.Leaving.{MetFullBook}
+use Rattle.worker_pool.specs.JobEnds.{counted_whole}
+use Rattle.worker_pool.specs.JobFaults.{MetFullBook}
 use Rattle.worker_pool.proofs.Ends.{met_full}
 use Rattle.worker_pool.proofs.pool.whole_ends.Goals as goal
 

@@ -4,12 +4,12 @@ use crate::workers::resting::{Manner, PLAIN, Stage, after_looks, new_stage, run_
 use crate::workers::script::Line;
 use crate::workers::sessions::TestSession;
 use node_session::Ended;
-use session_pool::Shared;
 use std::alloc::Global;
 use std::process::Abort;
 use std::sync::Wait;
 use std::test::*;
 use std::thread::Threads;
+use worker_pool::Shared;
 
 /// A session of one put, paused after so many looks, over streams that give and take so many bytes at once.
 struct Cut {

@@ -1,7 +1,7 @@
 //! Sessions that are paused after each of their steps, once or twice, and come to what they come to without a pause.
 ghost use Rattle.job_pool.specs.Lists.{Every};
 ghost use Rattle.gate_node.specs.Passes.{ArePassesOf};
-ghost use Rattle.session_pool.specs.PausedSessions.{CanGoOn};
+ghost use Rattle.worker_pool.specs.PausedSessions.{CanGoOn};
 
 use crate::exchanges::{NOTHING_ACCEPTED, NOTHING_COUNTED, new_shared};
 use crate::workers::resting::{Manner, PLAIN, Stage, after_looks, new_stage, run_once};
@@ -9,7 +9,6 @@ use crate::workers::runs::{ONE_KEY, Run, THREE};
 use crate::workers::script::Line;
 use crate::workers::served::has_tallies;
 use node_session::Ended;
-use session_pool::{NoPause, Shared};
 use stats_book::Totals;
 use std::alloc::Global;
 use std::process::Abort;
@@ -18,6 +17,7 @@ use std::sync::atomic::Ordering;
 use std::test::*;
 use std::thread::Threads;
 use vnode_core::Tally;
+use worker_pool::{NoPause, Shared};
 
 /// Sessions over new gates, in a run that is paused and later ones, and what they come to.
 struct Row {

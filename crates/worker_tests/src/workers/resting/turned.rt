@@ -3,7 +3,7 @@
 ghost use Rattle.std.specs.Prelude.{◌≡◌, IfSome};
 ghost use Rattle.job_pool.specs.Lists.{Every};
 ghost use Rattle.gate_node.specs.Passes.{ArePassesOf};
-ghost use Rattle.session_pool.specs.PausedSessions.{CanGoOn};
+ghost use Rattle.worker_pool.specs.PausedSessions.{CanGoOn};
 
 use crate::diversions::divert;
 use crate::exchanges::{GET, NOTHING_ACCEPTED, NOTHING_COUNTED, ONE_GET, new_shared};
@@ -13,7 +13,6 @@ use crate::workers::resting::{PLAIN, Stage, after_looks, new_stage, run_once};
 use crate::workers::script::Line;
 use gate_node::tallies_of;
 use node_session::Ended;
-use session_pool::{NoPause, Open, Passes, Shared};
 use stats_book::Totals;
 use std::alloc::Global;
 use std::process::Abort;
@@ -22,6 +21,7 @@ use std::sync::Wait;
 use std::test::*;
 use std::thread::Threads;
 use vnode_core::Tally;
+use worker_pool::{NoPause, Open, Passes, Shared};
 
 /// What comes of the session, by how many of its requests were answered before the diversion, and how many before the return.
 struct Turned {

@@ -1,8 +1,8 @@
 use Rattle.std.proofs.Common.{◌≡◌, inl, subst}
-use Rattle.session_pool.specs.declared.left.Left.{Left}
-use Rattle.session_pool.specs.declared.left.Left.TheVariants as lefts
-use Rattle.session_pool.specs.Serving.{CountsInOpenSession}
-use Rattle.worker_pool.specs.Serving.{session_of}
+use Rattle.worker_pool.specs.declared.left.Left.{Left}
+use Rattle.worker_pool.specs.declared.left.Left.TheVariants as lefts
+use Rattle.worker_pool.specs.Serving.{CountsInOpenSession}
+use Rattle.worker_pool.specs.JobEnds.{session_of}
 use Rattle.worker_pool.proofs.Closing.{counts_in_session}
 use Rattle.worker_pool.proofs.server.ServerService.close.Goals as goal
 

@@ -1,9 +1,9 @@
 use Rattle.std.proofs.Common.{◌∙◌, ap, refl, sym, subst}
 use Rattle.gate_node.specs.Gates.{Gates}
 use Rattle.gate_node.specs.Passes.{ArePassesOf}
-use Rattle.session_pool.specs.PausedSessions.{PausedSessionView, CanGoOn, StaysOver}
-use Rattle.session_pool.proofs.Resuming.{later_same}
-use Rattle.worker_pool.specs.Serving.{session_of}
+use Rattle.worker_pool.specs.PausedSessions.{PausedSessionView, CanGoOn, StaysOver}
+use Rattle.worker_pool.proofs.Resuming.{later_same}
+use Rattle.worker_pool.specs.JobEnds.{session_of}
 use Rattle.worker_pool.proofs.server.ServerService.open.Goals as goal
 
 pub new-session-requires : goal.new-session-requires

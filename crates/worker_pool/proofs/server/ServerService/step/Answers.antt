@@ -1,5 +1,5 @@
 use Rattle.std.proofs.Common.{inl, inr}
-use Rattle.worker_pool.specs.Serving.{session_of}
+use Rattle.worker_pool.specs.JobEnds.{session_of}
 use Rattle.worker_pool.proofs.server.ServerService.step.Goals as goal
 
 pub returns-clause-stands : goal.returns-clause-stands

@@ -2,7 +2,7 @@ use Rattle.std.proofs.Common.{rules, arith, subst}
 use Rattle.std.proofs.lemmas.Grind.{common_steps}
 use Rattle.std.specs.Vec.Iter.{into_iter_items}
 use Rattle.job_pool.specs.Lists.{Every}
-use Rattle.session_pool.specs.PausedSessions.{CanGoOn}
+use Rattle.worker_pool.specs.PausedSessions.{CanGoOn}
 use Rattle.worker_tests.proofs.Sessions.{joined_none, joined_more, joined_all}
 use Rattle.worker_tests.proofs.workers.resting.rest_of.Goals as goal
 

@@ -1,6 +1,6 @@
 use Rattle.std.proofs.Common.{map, sym, subst}
 use Rattle.job_pool.specs.Lists.{Every, concat}
-use Rattle.session_pool.specs.PausedSessions.{CanGoOn}
+use Rattle.worker_pool.specs.PausedSessions.{CanGoOn}
 use Rattle.worker_tests.proofs.workers.resting.take_served.Goals as goal
 
 pub returns-then-put_resting-clause-rest : goal.returns-then-put_resting-clause-rest

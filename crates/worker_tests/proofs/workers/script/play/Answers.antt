@@ -2,8 +2,8 @@ use Rattle.std.proofs.Common.{◌≡◌, ◌∙◌, refl, subst}
 use Rattle.std.specs.Prelude.{⊤, Option, Result, MatchResult, MatchOption}
 use Rattle.job_pool.specs.declared.jobs.JobFault.{JobFault}
 use Rattle.worker_pool.specs.declared.job.Job.{Job}
-use Rattle.worker_pool.specs.Serving.{IsForGates}
-use Rattle.session_pool.proofs.Sources.{gives_only}
+use Rattle.worker_pool.specs.JobEnds.{IsForGates}
+use Rattle.worker_pool.proofs.Sources.{gives_only}
 use Rattle.worker_tests.specs.declared.workers.script.Script.{Script}
 use Rattle.worker_tests.specs.declared.workers.streams.Input.{Input}
 use Rattle.worker_tests.specs.declared.workers.streams.Output.{Output}

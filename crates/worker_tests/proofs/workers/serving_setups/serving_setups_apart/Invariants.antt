@@ -1,6 +1,6 @@
 use Rattle.std.proofs.Common.{◌≡◌, ◌+◌, ◌≤◌, length, vec_len, vec_capacity}
 use Rattle.job_pool.specs.Lists.{Every}
-use Rattle.session_pool.specs.EndReporters.{IsNewServingSetup}
+use Rattle.worker_pool.specs.EndReporters.{IsNewServingSetup}
 use Rattle.worker_tests.proofs.workers.serving_setups.serving_setups_apart.Given as goal
 
 abbrev pub invariant-loop : goal.invariant-loop

@@ -1,7 +1,7 @@
 use Rattle.std.proofs.Common.{◌∙◌, subst}
 use Rattle.std.proofs.lemmas.List.{append-nil}
 use Rattle.job_pool.specs.Lists.{Every}
-use Rattle.session_pool.specs.PausedSessions.{CanGoOn}
+use Rattle.worker_pool.specs.PausedSessions.{CanGoOn}
 use Rattle.worker_tests.proofs.Sessions.{all_left, all_last}
 use Rattle.worker_tests.proofs.workers.sessions.next_resting.Goals as goal
 

@@ -3,8 +3,8 @@ use Rattle.std.proofs.lemmas.Result.{IfOk-weaker}
 use Rattle.std.specs.Prelude.{⊤, Option, Result, MatchResult, MatchOption}
 use Rattle.job_pool.specs.Lists.{Every}
 use Rattle.job_pool.specs.declared.jobs.JobFault.{JobFault}
-use Rattle.session_pool.specs.PausedSessions.{PausedSessionView, CanGoOn}
-use Rattle.session_pool.proofs.Sources.{gives_only}
+use Rattle.worker_pool.specs.PausedSessions.{PausedSessionView, CanGoOn}
+use Rattle.worker_pool.proofs.Sources.{gives_only}
 use Rattle.worker_tests.specs.declared.workers.sessions.Sessions.{Sessions}
 use Rattle.worker_tests.specs.declared.workers.streams.Input.{Input}
 use Rattle.worker_tests.specs.declared.workers.streams.Output.{Output}

@@ -1,5 +1,0 @@
-use Rattle.session_pool.proofs.Legal.{told_at}
-use Rattle.session_pool.proofs.laws.told_sessions_are_at_positions.Goals as goal
-
-pub returns : goal.returns
-returns g c = told_at

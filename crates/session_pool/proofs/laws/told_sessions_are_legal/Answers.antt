@@ -1,5 +1,0 @@
-use Rattle.session_pool.proofs.Legal.{told_is_legal}
-use Rattle.session_pool.proofs.laws.told_sessions_are_legal.Goals as goal
-
-pub returns : goal.returns
-returns g c = told_is_legal
