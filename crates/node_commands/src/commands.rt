@@ -254,7 +254,7 @@ impl<C: Read + Write> Console<C> {
             match self.read_line(rt, has_ended) {
                 Heard::Over => return Asked::Nothing,
                 Heard::End => {
-                    info!(rt; "the end of the input stops the node");
+                    info!(rt; "the end of the input, or a signal, stops the node");
                     return self.stop(stop);
                 }
                 Heard::Line => {
