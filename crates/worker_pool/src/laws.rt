@@ -40,8 +40,8 @@ pub fn sessions_stay_in_their_run()
 /// A session goes on where it rested: what it came to by a [`RunNode`](crate::RunNode), it came to by steps of a node over the gates as they were
 /// then; and by such steps it has come as far for the node by which it goes on, over whatever gates, since that stands where it rested.
 pub fn sessions_go_on()
-    ensures so_far { (first now : RunNodeView) (source source' : SourceView) (target target' : TargetView)
-        (stage : Stage) (session : Session)
+    ensures so_far { (first now : RunNodeView) (source source' : SourceView)
+        (target target' : TargetView) (stage : Stage) (session : Session)
         → Came RunNodeStep first now source source' target target' stage session
         → Came RunStep first.stands now.stands source source' target target' stage session }
     ensures further { (over : Gates) (before : Totals) (first now : NodeOverGates)
